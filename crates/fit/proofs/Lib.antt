@@ -1,0 +1,5 @@
+pub mod Asked
+pub mod Chosen
+mod Keeping
+pub mod Lawful
+mod Steps

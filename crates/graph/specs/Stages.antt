@@ -1,0 +1,11 @@
+-- What the head of a sheet says so far.
+
+use Prim.Native.Nat.{ℕ}
+use Rattle.graph.specs.declared.stage.Stage.{Stage}
+use Rattle.graph.specs.declared.stage.Stage.the-variants.{Blank, Machined, Ruled}
+
+-- the grain; 1 where there is no machine yet
+abbrev pub grainOf : Stage → ℕ
+grainOf Blank = 1
+grainOf (Machined m) = m .grain
+grainOf (Ruled m f) = m .grain

@@ -1,0 +1,3 @@
+mod Ascents
+mod Asked
+mod Writes
