@@ -14,7 +14,7 @@ pub use fabric::Fabric;
 pub use kinds::HybridBanksFabric;
 pub use kinds::PrivateBanksFabric;
 pub use kinds::SharedBankFabric;
-pub use sheet::SheetFabricFabric;
+pub use sheet::SheetFabricByKind;
 
 #[cfg(test)]
 mod tests;

@@ -35,7 +35,7 @@ impl SheetFabric {
     }
 }
 
-pub impl Fabric for SheetFabric as SheetFabricFabric {
+pub impl Fabric for SheetFabric as SheetFabricByKind {
     const MAX_BANKS: u32 = 9;
 
     ghost most = { 9 };

@@ -1,7 +1,7 @@
 // Homes of an object that cores 0 and 2 touch, and of one that core 2 alone touches.
 use crate::Fabric;
 use crate::SheetFabric;
-use crate::SheetFabricFabric;
+use crate::SheetFabricByKind;
 use rules::sheet::Kind;
 use rules::sheet::Machine;
 use std::test::*;

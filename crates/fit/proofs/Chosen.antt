@@ -1,5 +1,5 @@
 -- What first fit and best fit choose comes first by its order of gaps.
-use mathlib.Core.Path.{_≡_, refl, sym, ap, subst, _∙_}
+use mathlib.Core.Path.{_≡_, refl, sym, subst}
 use mathlib.Core.List.{List, [], _∷_}
 use mathlib.Core.Bool.{Bool, true, false, cond, _&&_}
 use mathlib.Core.Logic.{_⊎_, inl, inr, ⊎-elim}
@@ -13,10 +13,10 @@ use Rattle.std.specs.declared.option.Option.the-variants.{Some, None}
 use Rattle.std.proofs.shelf.Elements.{all-weaker}
 use Rattle.std.proofs.shelf.Tests.{leb-true, leb-false, le-leb, ltb-true, ltb-false, and-parts, and-cases}
 use Rattle.rules.specs.declared.memory.Stretch.{Stretch}
-use Rattle.rules.specs.Stretches.{All, Any, _∈_}
+use Rattle.rules.specs.Stretches.{All, _∈_}
 use Rattle.rules.specs.Fitting.{place-in, Holds, answer-from, Ascending, Proper, Takes, Lower, Tighter, width, First-fit, Best-fit}
 use Rattle.rules.proofs.Members.{any-weaker, any-at}
-use Rattle.fit.specs.Choosing.{offer, first-of, better, best-from, taken, best-of}
+use Rattle.fit.specs.Choosing.{first-of, best-from, taken, best-of}
 
 -- whether a gap holds the size
 abbrev fits : ℕ → ℕ → Stretch → Bool
@@ -112,14 +112,14 @@ module _ (size grain : ℕ) where
       (r .0, record { found = r .1; holds = r .2; one-of = r .3; before = r .4; among = r .5 })
 
   -- none holds the size, or x is the best
-  Chosen : List Stretch → Option Stretch → Type 0
-  Chosen gs best =
+  Best-or-none : List Stretch → Option Stretch → Type 0
+  Best-or-none gs best =
       ((best ≡ None) × All (λ h. Holds h size grain → ⊥) gs)
       ⊎ ((x : Stretch) × (best ≡ Some x) × Holds x size grain × (x ∈ gs) × All (λ h. Holds h size grain → Tighter x h) gs)
 
-  choose-step : (g : Stretch) (gs : List Stretch) → (Holds g size grain → (x : Stretch) × Best-of-both g gs x) → Chosen gs (best-from size grain None gs) →
-      (t : Bool) → fits size grain g ≡ t → Chosen (g ∷ gs) (best-from size grain (cond t (Some g) None) gs)
-  unfolding Chosen
+  choose-step : (g : Stretch) (gs : List Stretch) → (Holds g size grain → (x : Stretch) × Best-of-both g gs x) → Best-or-none gs (best-from size grain None gs) →
+      (t : Bool) → fits size grain g ≡ t → Best-or-none (g ∷ gs) (best-from size grain (cond t (Some g) None) gs)
+  unfolding Best-or-none
   choose-step g gs taking rest true e =
       let it = taking (leb-true (place-in g grain + size) (g .end) e) in
       let r = it .1 in
@@ -133,14 +133,14 @@ module _ (size grain : ℕ) where
       lacks : Holds g size grain → ⊥
       lacks h = let l = leb-false (place-in g grain + size) (g .end) e in omega arith
 
-  chosen : (gs : List Stretch) → Filled gs → Ascending gs → Chosen gs (best-from size grain None gs)
-  unfolding Chosen
+  chosen : (gs : List Stretch) → Filled gs → Ascending gs → Best-or-none gs (best-from size grain None gs)
+  unfolding Best-or-none
   chosen [] f up = inl (refl, tt)
   chosen (g ∷ gs) f up =
       choose-step g gs (λ h. best-after g gs h (f .0) (up .0) (f .1) (up .1)) (chosen gs (f .1) (up .1)) (fits size grain g) refl
 
-  takes-chosen : (gs : List Stretch) (best : Option Stretch) → Chosen gs best → Takes Tighter gs size grain (taken size grain best)
-  unfolding Chosen
+  takes-chosen : (gs : List Stretch) (best : Option Stretch) → Best-or-none gs best → Takes Tighter gs size grain (taken size grain best)
+  unfolding Best-or-none
   takes-chosen gs best (inl n) = subst (λ o. Takes Tighter gs size grain (taken size grain o)) (sym (n .0)) (n .1)
   takes-chosen gs best (inr r) =
       subst (λ o. Takes Tighter gs size grain (taken size grain o)) (sym (r .1))

@@ -1,10 +1,8 @@
 // Best fit.
-ghost use Prim.Native.Nat.{_<_};
 ghost use mathlib.Core.Path.{_≡_};
 ghost use Rattle.fit.specs.Choosing.{best-of, better};
 ghost use Rattle.rules.specs.Fitting.{width};
 use crate::place::place_in;
-use crate::place::round_up;
 use crate::question::Question;
 use crate::rule::FitRule;
 use rules::memory::Stretch;
@@ -30,7 +28,6 @@ pub impl FitRule for BestFit as BestFitRule {
 
 // The best gap so far, or this one if it holds the object and has fewer bytes.
 fn tighter(best: Option<Stretch>, gap: Stretch, size: u32, grain: u32) -> Option<Stretch>
-    requires grained { ⌜ 0 < grain ⌝ }
     ensures { λ r. ⌜ r ≡ better size grain best gap ⌝ }
 {
     if place_in(gap, size, grain).is_none() {

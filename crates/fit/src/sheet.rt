@@ -1,5 +1,4 @@
 // The fit rule of a sheet.
-ghost use lib.ListN.{length};
 ghost use mathlib.Core.Bool.{true};
 ghost use mathlib.Core.Path.{_≡_};
 ghost use Rattle.rules.specs.Fitting.{layered, may-layer};
@@ -43,7 +42,7 @@ pub enum SheetRule {
 }
 
 impl SheetRule {
-    // The fit under the layers, of which a later one is outside an earlier one. Of more layers the last count.
+    // The fit under the layers, of which a later one is outside an earlier one. Of a longer list only the last layers count.
     pub fn of(fit: Fit, layers: &[Layer]) -> SheetRule
         ensures { λ r. ⌜ (may-layer (now (layers .entry)) ≡ true → by-sheet r ≡ layered (by-fit fit) (now (layers .entry))) ⌝ }
     {

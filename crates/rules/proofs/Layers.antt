@@ -12,7 +12,8 @@ use Rattle.std.specs.declared.option.Option.{Option}
 use Rattle.std.specs.declared.option.Option.the-variants.{Some, None}
 use Rattle.rules.specs.declared.memory.Stretch.{Stretch}
 use Rattle.rules.specs.Stretches.{All, Any, _∈_}
-use Rattle.rules.specs.Fitting.{Rule, Proper, Holds, Answers, Takes, Fit-rule, First-fit, Best-fit, Lower, Tighter, answer-from, asks-first, ascend-from}
+use Rattle.rules.specs.Fitting.{Rule, Proper, Holds, Answers, Takes, Fit-rule, First-fit, Best-fit, Lower, Tighter, answer-from, asks-first, ascend-from, ends-below, is-snug}
+use Rattle.rules.specs.PlacingLaws.{Layers-are-fit-rules}
 use Rattle.rules.proofs.Members.{any-weaker, any-kept}
 use Rattle.rules.proofs.Questions.{ascend-from-proper, kept-ascend, range-from-test, ascending-from-test}
 
@@ -34,7 +35,8 @@ pub best-fit-is-a-fit-rule : (rule : Rule) → Best-fit rule → Fit-rule rule
 best-fit-is-a-fit-rule rule best gs size grain p =
     answers-from-takes Tighter gs size grain (rule gs size grain) (best gs size grain p)
 
-length-kept : {X : Type 0} (p : X → Bool) (xs : List X) → length (kept-by p xs) ≤ length xs
+-- no more pass than there are
+pub length-kept : {X : Type 0} (p : X → Bool) (xs : List X) → length (kept-by p xs) ≤ length xs
 length-kept p [] = omega arith
 length-kept p (x ∷ xs) =
     let rest = length-kept p xs in
@@ -64,3 +66,7 @@ layer-is-a-fit-rule test rule lawful gs size grain q =
     let p : Stretch → Bool = λ g. test g size grain in
     either-answer p gs size grain (rule (kept-by p gs) size grain) (rule gs size grain)
     (lawful (kept-by p gs) size grain (kept-proper p gs size grain q)) (lawful gs size grain q)
+
+pub layers-are-fit-rules : Layers-are-fit-rules
+layers-are-fit-rules n rule lawful =
+    (layer-is-a-fit-rule (λ g size grain. ends-below n g) rule lawful, layer-is-a-fit-rule (is-snug n) rule lawful)

@@ -14,9 +14,12 @@ use Rattle.rules.specs.declared.sheet.Kind.{Kind}
 use Rattle.rules.specs.declared.sheet.Entry.{Entry}
 use Rattle.rules.specs.declared.sheet.Entry.the-variants.{OnMachine, ByFit, WithLayer, NextActor, NextLink}
 use Rattle.text.specs.Bounds.{linkCount}
-use Rattle.text.specs.Numbers.{digitsOn, numberOn, fieldOn}
-use Rattle.text.specs.Entries.{kindOn, withKind, withField, ending, fitOf, machineOf, fitLineOf, loneOf, lowOf, snugOf, actorOf, fifoOf, plainOf, delayedOf, sequenceOf, fieldsOf, entryOf}
-use Rattle.text.specs.Lines.{Cut, Says}
+use Rattle.rules.specs.Numerals.{digitsOn, numberOn, fieldOn}
+use Rattle.rules.specs.Fields.{kindOn, withKind, withField, ending, fitOf, machineOf, fitLineOf, loneOf, lowOf, snugOf, actorOf, fifoOf, plainOf, delayedOf, sequenceOf, fieldsOf, entryOf}
+use Rattle.rules.specs.Reading.{Goes}
+use Rattle.rules.specs.Spelling.{spell}
+use Rattle.rules.proofs.Cuts.{goes-cut}
+use Rattle.rules.proofs.Lines.{entry-back}
 
 -- what was found, if anything was, measures at most k
 abbrev AtMost : {X : Type 0} → (X → ℕ) → ℕ → Option X → Type 0
@@ -140,11 +143,11 @@ line-takes (b ∷ bs) = at-least (fieldsOf b bs) (fields-take b bs)
     at-least (Some e) h = omega (arith, h)
 
 -- what follows a line is shorter, by six bytes or more behind a link
-pub says-spends : (text : List ℕ) (e : Entry) (rest : List ℕ) → Says text e rest → (6 * linkCount e + length rest ≤ length text) × (length rest < length text)
-says-spends text e rest said =
-    let line = said .0 in
-    let l : AtMost bytes (length line) (Some e) = subst (AtMost bytes (length line)) (said .2) (line-takes line) in
-    let t : length text ≡ length line + length (10 ∷ rest) = ap length (said .1 .0) ∙ length-append line (10 ∷ rest) in
+pub goes-spends : (text : List ℕ) (e : Entry) (rest : List ℕ) → Goes text e rest → (6 * linkCount e + length rest ≤ length text) × (length rest < length text)
+goes-spends text e rest goes =
+    let cut = goes-cut text e rest goes in
+    let l : AtMost bytes (length (spell e)) (Some e) = subst (AtMost bytes (length (spell e))) (entry-back e (goes .0)) (line-takes (spell e)) in
+    let t : length text ≡ length (spell e) + length (10 ∷ rest) = ap length (cut .0) ∙ length-append (spell e) (10 ∷ rest) in
     let u = link-or-not e in
     (omega (arith, l), omega arith)
   where

@@ -2,7 +2,6 @@
 use Prim.Native.Nat.{ℕ, _≤_, _<_}
 use mathlib.Core.Path.{_≡_}
 use mathlib.Core.List.{List, _∷_, _++_}
-use lib.Chars.{codes}
 use lib.ListN.{length, getD}
 use denote.Ref.{RefT}
 use Rattle.std.specs.declared.option.Option.{Option}
@@ -12,11 +11,8 @@ use Rattle.std.specs.declared.result.Result.the-variants.{Ok, Err}
 use Rattle.rules.specs.declared.sheet.Entry.{Entry}
 use Rattle.text.specs.declared.faults.TextFault.{TextFault}
 use Rattle.text.specs.declared.faults.TextFault.the-variants.{TooLong, NoHeader, Malformed}
-use Rattle.text.specs.Entries.{entryOf}
-
--- the first line of every sheet: mark and version
-abbrev pub header : List ℕ
-header = codes "LGM 1"
+use Rattle.rules.specs.Reading.{Goes}
+use Rattle.rules.specs.Spelling.{header}
 
 -- no byte is a line end
 abbrev pub Endless : List ℕ → Type 0
@@ -31,18 +27,10 @@ abbrev pub FirstEnd : List ℕ → ℕ → Option ℕ → Type 0
 FirstEnd text from None = (k : ℕ) → from ≤ k → k < length text → getD text k 0 ≡ 10 → ⊥
 FirstEnd text from (Some i) = (from ≤ i) × (i < length text) × (getD text i 0 ≡ 10) × ((k : ℕ) → from ≤ k → k < i → getD text k 0 ≡ 10 → ⊥)
 
--- the first line says e, and the rest follows it
-abbrev pub Says : List ℕ → Entry → List ℕ → Type 0
-Says text e rest = (line : List ℕ) × Cut text line rest × (entryOf line ≡ Some e)
-
--- the text has no first line, or one that is badly written
-abbrev pub Silent : List ℕ → Type 0
-Silent text = (line rest : List ℕ) → Cut text line rest → entryOf line ≡ None
-
--- what the first line says with what follows it, or its number where it says nothing
+-- the text goes on with the line of this entry, or with no entry's line, which is reported with its number
 abbrev pub NextEntry : List ℕ → ℕ → Result (Entry × RefT (List ℕ)) TextFault → Type 0
-NextEntry text at (Ok p) = Says text (p .0) (p .1 .now)
-NextEntry text at (Err f) = (f ≡ Malformed at) × Silent text
+NextEntry text at (Ok p) = Goes text (p .0) (p .1 .now)
+NextEntry text at (Err f) = (f ≡ Malformed at) × ((e : Entry) (rest : List ℕ) → Goes text e rest → ⊥)
 
 -- why a text does not begin with the header and its line end: it is the header alone, or it begins otherwise
 abbrev pub Headless : List ℕ → TextFault → Type 0

@@ -16,7 +16,7 @@ ghost use Rattle.std.specs.Options.{Cases, okOr};
 ghost use Rattle.std.specs.declared.option.Option.the-variants.{Some, None};
 ghost use Rattle.text.specs.declared.faults.TextFault.the-variants.{Malformed};
 ghost use Rattle.text.specs.Numbers.{readAs};
-ghost use Rattle.text.specs.Entries.{kindOf, fitOf, kindOn, machineOf, fitLineOf, loneOf, lowOf, snugOf, actorOf, fifoOf, plainOf, delayedOf, sequenceOf, entryOf};
+ghost use Rattle.rules.specs.Fields.{kindOf, fitOf, kindOn, machineOf, fitLineOf, loneOf, lowOf, snugOf, actorOf, fifoOf, plainOf, delayedOf, sequenceOf, entryOf};
 
 // The kind that `letter` names.
 fn kind_of(letter: u8) -> Option<Kind>

@@ -3,7 +3,8 @@
 ghost use mathlib.Core.Path.{_≡_};
 ghost use Rattle.std.specs.Options.{Cases};
 ghost use Rattle.std.specs.declared.option.Option.the-variants.{Some, None};
-ghost use Rattle.text.specs.Numbers.{numberOn, fieldOn, readAs};
+ghost use Rattle.rules.specs.Numerals.{fieldOn, numberOn};
+ghost use Rattle.text.specs.Numbers.{readAs};
 
 // The number that `s` begins with, and what follows it: decimal digits without a leading zero, of at
 // most 32 bits.

@@ -26,6 +26,14 @@ pub fn with(w: u64, k: u32) -> u64
     if k < ROOM { w | 1 << k } else { w }
 }
 
+// The set of one or two numbers, those that there is room for.
+pub fn pair(a: u32, b: u32) -> u64
+    ensures value { λ r. ⌜ (a < 64 → b < 64 → r ≡ bitOr (2 ^ a) (2 ^ b)) ⌝ }
+    ensures bits { λ r. ⌜ ((j : ℕ) → bit r j ≡ ((ltb a 64 && eqb a j) || (ltb b 64 && eqb b j))) ⌝ }
+{
+    with(with(0, a), b)
+}
+
 // How many numbers the set has.
 pub fn count(w: u64) -> u32
     ensures value { λ r. ⌜ r ≡ ones w ⌝ }

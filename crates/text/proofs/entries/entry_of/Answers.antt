@@ -1,6 +1,6 @@
 use borrow.Author.Needs.{needs}
 use Rattle.std.proofs.shelf.Lists.{take-rest}
-use Rattle.text.specs.Entries.{entryOf}
+use Rattle.rules.specs.Fields.{entryOf}
 use Rattle.text.proofs.entries.entry_of.Needs as need
 
 pub returns-in-M : need.returns-in-M

@@ -1,6 +1,6 @@
 use borrow.Author.Needs.{needs}
 use Rattle.std.proofs.shelf.Lists.{take-rest}
-use Rattle.text.specs.Entries.{kindOn}
+use Rattle.rules.specs.Fields.{kindOn}
 use Rattle.text.proofs.entries.kind_field.Needs as need
 
 pub returns : need.returns

@@ -5,7 +5,7 @@ use Rattle.std.specs.declared.option.Option.the-variants.{Some}
 use Rattle.std.proofs.shelf.Lists.{nil-from-length}
 use Rattle.std.proofs.shelf.Parts.{first-rest}
 use Rattle.std.proofs.shelf.Equals.{strip-prefix-is}
-use Rattle.text.specs.Lines.{header}
+use Rattle.rules.specs.Spelling.{header}
 use Rattle.text.proofs.lines.after_header.Needs as need
 
 pub returns-in-empty : need.returns-in-empty

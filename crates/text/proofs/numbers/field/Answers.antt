@@ -1,6 +1,6 @@
 use borrow.Author.Needs.{needs}
 use Rattle.std.proofs.shelf.Parts.{first-rest}
-use Rattle.text.specs.Numbers.{fieldOn}
+use Rattle.rules.specs.Numerals.{fieldOn}
 use Rattle.text.proofs.numbers.field.Needs as need
 
 pub returns : need.returns

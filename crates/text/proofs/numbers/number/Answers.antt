@@ -7,7 +7,7 @@ use lib.ListN.{getD, length}
 use Rattle.std.specs.declared.option.Option.the-variants.{Some, None}
 use Rattle.std.specs.shelf.Lists.{between}
 use Rattle.std.proofs.shelf.Parts.{first-rest}
-use Rattle.text.specs.Numbers.{digitsOn}
+use Rattle.rules.specs.Numerals.{digitsOn}
 use Rattle.text.proofs.numbers.number.Needs as need
 use Rattle.text.proofs.numbers.number.Needs.{in-rest-rest, in-rest-rest·2, in-rest-rest·3}
 

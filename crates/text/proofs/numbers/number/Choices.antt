@@ -1,7 +1,7 @@
 use Prim.Native.Nat.{_≤_}
 use mathlib.Core.Path.{_≡_}
 use lib.ListN.{length}
-use Rattle.text.specs.Numbers.{digitsOn, numberOn}
+use Rattle.rules.specs.Numerals.{digitsOn, numberOn}
 use Rattle.text.proofs.numbers.number.Given as given
 
 -- the digits that are left continue the number

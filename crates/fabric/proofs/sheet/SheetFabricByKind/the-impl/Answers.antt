@@ -1,6 +1,6 @@
 use Rattle.fabric.specs.declared.boards.SheetFabric.the-variants.{Unified, Private, Hybrid}
 use Rattle.fabric.proofs.Homes.{hybrid-homely, separate-homely, unified-homely}
-use Rattle.fabric.proofs.sheet.SheetFabricFabric.the-impl.Needs as need
+use Rattle.fabric.proofs.sheet.SheetFabricByKind.the-impl.Needs as need
 
 pub homely-law : need.homely-law
 homely-law (Unified f) touching set = unified-homely (f .cores) touching set (f .capacity)

@@ -1,4 +1,4 @@
--- What one line says.
+-- Reading a line by its bytes: the decision of what a line says.
 use Prim.Native.Nat.{ℕ}
 use mathlib.Core.Bool.{cond, _&&_}
 use mathlib.Core.List.{List, [], _∷_}
@@ -7,16 +7,16 @@ use lib.ListN.{length, getD, drop}
 use Rattle.std.specs.Options.{mapped}
 use Rattle.std.specs.declared.option.Option.{Option}
 use Rattle.std.specs.declared.option.Option.the-variants.{Some, None}
 use Rattle.rules.specs.declared.sheet.Kind.{Kind}
 use Rattle.rules.specs.declared.sheet.Kind.the-variants.{Unified, Private, Hybrid}
 use Rattle.rules.specs.declared.sheet.Fit.{Fit}
 use Rattle.rules.specs.declared.sheet.Fit.the-variants.{First, Best}
 use Rattle.rules.specs.declared.sheet.Layer.the-variants.{LowLine, SnugLimit}
 use Rattle.rules.specs.declared.sheet.Fifo.{Fifo}
 use Rattle.rules.specs.declared.sheet.Link.the-variants.{Plain, Delayed, Ordered}
 use Rattle.rules.specs.declared.sheet.Entry.{Entry}
 use Rattle.rules.specs.declared.sheet.Entry.the-variants.{OnMachine, ByFit, WithLayer, NextActor, NextLink}
-use Rattle.text.specs.Numbers.{fieldOn}
+use Rattle.rules.specs.Numerals.{fieldOn}
 
 -- the kind that a letter names
 abbrev pub kindOf : ℕ → Option Kind
