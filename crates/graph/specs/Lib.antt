@@ -1,3 +1,11 @@
 pub mod Sizes
 pub mod Stages
 pub mod Ranges
+pub mod Rows
+pub mod Orders
+pub mod Excluding
+pub mod RowBits
+pub mod Judging
+pub mod Taking
+pub mod Readings
+pub mod Questions

@@ -2,11 +2,16 @@
 
 pub mod exclusions;
 pub mod faults;
+pub mod graph_calls;
+pub mod joining;
 pub mod links;
 pub mod object_set;
 pub mod objects;
 pub mod order;
 pub mod questions;
+pub mod read_sheet;
 pub mod reading;
+pub mod row;
 pub mod sheet_graph;
 pub mod stage;
+pub mod taking;

@@ -1,9 +1,14 @@
 // The links of a sheet.
 
-ghost use Prim.Native.Nat.{_+_, _≤_, _<_};
+ghost use Prim.Native.Nat.{_+_, _<_, _≤_};
 ghost use mathlib.Core.Bool.{cond};
+ghost use mathlib.Core.List.{[], _++_, _∷_};
 ghost use mathlib.Core.Path.{_≡_};
-ghost use Rattle.std.specs.Of.Vec.{vec-len, vec-cap};
+ghost use Rattle.graph.specs.Orders.{Heard, Meant};
+ghost use Rattle.graph.specs.Rows.{may-join};
+ghost use Rattle.rules.specs.Drafts.{fifo-count};
+ghost use Rattle.rules.specs.declared.sheet.Link.the-variants.{Delayed, Ordered, Plain};
+ghost use Rattle.std.specs.Of.Vec.{vec-cap, vec-items, vec-len};
 ghost use Rattle.std.specs.Vec.{made};
 use crate::order::Order;
 use rules::sheet::Fifo;
@@ -24,23 +29,27 @@ pub struct Links {
     pub(crate) fifos: usize,
     pub(crate) order: Order,
     ghost space: { 10922 ≤ vec-cap list },
+    ghost counted: { fifos ≡ fifo-count (vec-items list) },
     ghost few: { fifos ≤ 192 },
+    ghost heard: { Heard (order .rows) (vec-items list) },
+    ghost meant: { Meant (order .rows) (vec-items list) },
 }
 
 impl Links {
     pub(crate) fn new(heap: Global) -> Result<Links, AllocError>
-        ensures { λ r. ⌜ made r (λ k. vec-len (k .list) ≡ 0) ⌝ }
+        ensures { λ r. ⌜ made r (λ k. vec-items (k .list) ≡ []) ⌝ }
     {
         let list = Vec::with_capacity(heap, MOST_LINKS)?;
+        let order = Order::none();
         Ok(Links {
             list,
             fifos: 0,
-            order: Order::none(),
+            order,
         })
     }
 
     pub(crate) fn clear(&mut self)
-        ensures { λ _. ⌜ vec-len (now (self .exit) .list) ≡ 0 ⌝ }
+        ensures { λ _. ⌜ vec-items (now (self .exit) .list) ≡ [] ⌝ }
     {
         self.list.clear();
         self.fifos = 0;
@@ -52,6 +61,8 @@ impl Links {
     pub(crate) fn push_plain(&mut self, fifo: Fifo) -> bool
         requires room { ⌜ vec-len (now self .list) < 10922 ⌝ }
         requires few { ⌜ now self .fifos < 192 ⌝ }
+        ensures answer { λ r. ⌜ r ≡ may-join (now (self .entry) .order .rows) (fifo .from) (fifo .to) ⌝ }
+        ensures items { λ r. ⌜ vec-items (now (self .exit) .list) ≡ cond r (vec-items (now (self .entry) .list) ++ Plain fifo ∷ []) (vec-items (now (self .entry) .list)) ⌝ }
         ensures len { λ r. ⌜ vec-len (now (self .exit) .list) ≡ cond r (vec-len (now (self .entry) .list) + 1) (vec-len (now (self .entry) .list)) ⌝ }
         ensures fifos { λ r. ⌜ now (self .exit) .fifos ≡ cond r (now (self .entry) .fifos + 1) (now (self .entry) .fifos) ⌝ }
     {
@@ -68,6 +79,7 @@ impl Links {
     pub(crate) fn push_delayed(&mut self, fifo: Fifo)
         requires room { ⌜ vec-len (now self .list) < 10922 ⌝ }
         requires few { ⌜ now self .fifos < 192 ⌝ }
+        ensures items { λ _. ⌜ vec-items (now (self .exit) .list) ≡ vec-items (now (self .entry) .list) ++ Delayed fifo ∷ [] ⌝ }
         ensures len { λ _. ⌜ vec-len (now (self .exit) .list) ≡ vec-len (now (self .entry) .list) + 1 ⌝ }
         ensures fifos { λ _. ⌜ now (self .exit) .fifos ≡ now (self .entry) .fifos + 1 ⌝ }
     {
@@ -79,6 +91,8 @@ impl Links {
     // False, and nothing changed, where that would put an actor before itself.
     pub(crate) fn push_ordered(&mut self, sequence: Sequence) -> bool
         requires room { ⌜ vec-len (now self .list) < 10922 ⌝ }
+        ensures answer { λ r. ⌜ r ≡ may-join (now (self .entry) .order .rows) (sequence .first) (sequence .second) ⌝ }
+        ensures items { λ r. ⌜ vec-items (now (self .exit) .list) ≡ cond r (vec-items (now (self .entry) .list) ++ Ordered sequence ∷ []) (vec-items (now (self .entry) .list)) ⌝ }
         ensures len { λ r. ⌜ vec-len (now (self .exit) .list) ≡ cond r (vec-len (now (self .entry) .list) + 1) (vec-len (now (self .entry) .list)) ⌝ }
         ensures fifos { λ _. ⌜ now (self .exit) .fifos ≡ now (self .entry) .fifos ⌝ }
     {

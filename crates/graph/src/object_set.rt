@@ -5,7 +5,7 @@ ghost use mathlib.Core.Path.{_≡_};
 ghost use Rattle.graph.specs.Sizes.{sizeAt};
 ghost use Rattle.std.specs.Of.Vec.{vec-items, vec-len};
 use crate::sheet_graph::Graph;
-use words::with;
+use words::pair;
 
 pub trait ObjectSet {
     // how many objects there are
@@ -35,16 +35,16 @@ pub trait ObjectSet {
 }
 
 pub impl ObjectSet for Graph as GraphObjects {
-    ghost count = { λ g. vec-len (g .objects .list) };
+    ghost count = { λ g. vec-len (g .sheet .objects .list) };
 
-    ghost sizes = { λ g. sizeAt (vec-items (g .objects .list)) };
+    ghost sizes = { λ g. sizeAt (vec-items (g .sheet .objects .list)) };
 
     fn len(&self) -> u32 {
-        self.objects.len() as u32
+        self.sheet.objects.len() as u32
     }
 
     fn size(&self, x: u32) -> u32 {
-        self.objects.list[x as usize].size
+        self.sheet.objects.list[x as usize].size
     }
 
     fn excludes(&self, x: u32, y: u32) -> bool {
@@ -52,11 +52,8 @@ pub impl ObjectSet for Graph as GraphObjects {
     }
 
     fn touching(&self, x: u32) -> u64 {
-        match self.objects.as_slice().get(x as usize) {
-            Some(object) => with(
-                with(0, self.core_of(object.producer)),
-                self.core_of(object.consumer),
-            ),
+        match self.sheet.objects.as_slice().get(x as usize) {
+            Some(object) => pair(self.core_of(object.producer), self.core_of(object.consumer)),
             None => 0,
         }
     }
@@ -65,7 +62,7 @@ pub impl ObjectSet for Graph as GraphObjects {
 impl Graph {
     // The core of an actor; 0 where there is no such actor.
     fn core_of(&self, actor: u32) -> u32 {
-        match self.actors.as_slice().get(actor as usize) {
+        match self.sheet.actors.as_slice().get(actor as usize) {
             Some(a) => a.core,
             None => 0,
         }

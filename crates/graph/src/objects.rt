@@ -2,6 +2,7 @@
 
 ghost use Prim.Native.Nat.{ℕ, _+_, _≤_, _<_};
 ghost use lib.ListN.{length};
+ghost use mathlib.Core.List.{[], _++_, _∷_};
 ghost use mathlib.Core.Path.{_≡_};
 ghost use Rattle.std.specs.Of.Vec.{vec-len, vec-cap, vec-items};
 ghost use Rattle.graph.specs.Sizes.{sizeAt};
@@ -27,14 +28,14 @@ pub struct Objects {
 
 impl Objects {
     pub(crate) fn new(heap: Global) -> Result<Objects, AllocError>
-        ensures { λ r. ⌜ made r (λ o. vec-len (o .list) ≡ 0) ⌝ }
+        ensures { λ r. ⌜ made r (λ o. vec-items (o .list) ≡ []) ⌝ }
     {
         let list = Vec::with_capacity(heap, MOST_OBJECTS)?;
         Ok(Objects { list })
     }
 
     pub(crate) fn clear(&mut self)
-        ensures { λ _. ⌜ vec-len (now (self .exit) .list) ≡ 0 ⌝ }
+        ensures { λ _. ⌜ vec-items (now (self .exit) .list) ≡ [] ⌝ }
     {
         self.list.clear();
     }
@@ -57,7 +58,8 @@ impl Objects {
         requires room { ⌜ vec-len (now self .list) < 256 ⌝ }
         requires filled { ⌜ 0 < object .size ⌝ }
         requires small { ⌜ object .size ≤ 16777216 ⌝ }
-        ensures { λ _. ⌜ vec-len (now (self .exit) .list) ≡ vec-len (now (self .entry) .list) + 1 ⌝ }
+        ensures items { λ _. ⌜ vec-items (now (self .exit) .list) ≡ vec-items (now (self .entry) .list) ++ object ∷ [] ⌝ }
+        ensures len { λ _. ⌜ vec-len (now (self .exit) .list) ≡ vec-len (now (self .entry) .list) + 1 ⌝ }
     {
         self.list.push_reserved(object);
     }

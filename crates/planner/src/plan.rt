@@ -12,7 +12,7 @@ use crate::map::put_map;
 use crate::output::put_bytes;
 use fabric::Fabric;
 use fabric::SheetFabric;
-use fabric::SheetFabricFabric;
+use fabric::SheetFabricByKind;
 use fit::FitRule;
 use fit::SheetRule;
 use fit::SheetRuleFit;

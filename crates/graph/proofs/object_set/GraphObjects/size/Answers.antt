@@ -10,7 +10,7 @@ use Rattle.graph.proofs.object_set.GraphObjects.size.Needs as need
 
 pub returns : need.returns
 returns c =
-    let items = vec-items (c .args .self .now .objects .list) in
-    let l : c .args .x < length items = omega (arith, c .args .self .now .objects .list .ok .0) in
+    let items = vec-items (c .args .self .now .sheet .objects .list) in
+    let l : c .args .x < length items = omega (arith, c .args .self .now .sheet .objects .list .ok .0) in
     ap (λ (o : Object). o .size) (c .index .ensures)
     ∙ sym (getD-map (λ (o : Object). o .size) items (c .args .x) (c .index .result .now) 0 l)
