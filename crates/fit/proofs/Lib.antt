@@ -1,5 +1,3 @@
-mod Ascents
 pub mod Asked
 mod Keeping
-mod Outcomes
 mod Steps

@@ -1,8 +1,6 @@
 // Fit rules: where an object goes among the gaps of a bank.
 
-mod asking;
 mod best;
-mod faults;
 mod first;
 mod laws;
 mod layers;
@@ -12,9 +10,7 @@ mod question;
 mod rule;
 mod sheet;
 
-pub use asking::{MOST_SIZE, ask};
 pub use best::BestFit;
-pub use faults::AskFault;
 pub use first::FirstFit;
 pub use laws::{best_fit_takes_the_tightest, first_fit_takes_the_lowest};
 pub use layers::{Low, Snug};

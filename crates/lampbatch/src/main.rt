@@ -2,7 +2,7 @@
 // A sheet comes as its length in decimal digits, byte 10, and its bytes; each answer ends with a line `.`.
 
 use layout::turns::Candidate;
-use map::lengths::MOST_MAP;
+use planner::map::MOST_MAP;
 use planner::plan::Plan;
 use std::io;
 use std::io::{Read, Write};

@@ -1,9 +1,6 @@
 // Plans: a sheet read, placed and printed.
 
 pub mod faults;
-pub mod leaning;
-pub mod mapping;
+pub mod map;
+mod output;
 pub mod plan;
-pub mod planning;
-pub mod questions;
-pub mod running;

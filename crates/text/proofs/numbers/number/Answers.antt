@@ -31,24 +31,24 @@ returns-in-48 c = search (rules, first_rest c.args.s.now 0)
 
 pub returns-in-err-checked-mul : goal.returns-in-err-checked-mul
 returns-in-err-checked-mul c =
-    let s = step c.loop_rest.n c.loop_rest.rest.now (omega arith) (omega arith) in
-    let t = too_large (c.loop_rest.n * 10 + (get_or c.loop_rest.rest.now 0 0 - 48)) (between 1 (length c.loop_rest.rest.now) c.loop_rest.rest.now) (omega (arith, c.in-err-checked-mul.ensures)) in
+    let s = step c.loop-rest.n c.loop-rest.rest.now (omega arith) (omega arith) in
+    let t = too_large (c.loop-rest.n * 10 + (get_or c.loop-rest.rest.now 0 0 - 48)) (between 1 (length c.loop-rest.rest.now) c.loop-rest.rest.now) (omega (arith, c.in-err-checked-mul.ensures)) in
     search rules
 
 pub returns-in-err-n : goal.returns-in-err-n
 returns-in-err-n c =
-    let s = step c.loop_rest.n c.loop_rest.rest.now (omega arith) (omega arith) in
-    let t = too_large (c.loop_rest.n * 10 + (get_or c.loop_rest.rest.now 0 0 - 48)) (between 1 (length c.loop_rest.rest.now) c.loop_rest.rest.now) (omega (arith, c.in-ok-checked-mul.ensures, c.in-err-n.ensures)) in
+    let s = step c.loop-rest.n c.loop-rest.rest.now (omega arith) (omega arith) in
+    let t = too_large (c.loop-rest.n * 10 + (get_or c.loop-rest.rest.now 0 0 - 48)) (between 1 (length c.loop-rest.rest.now) c.loop-rest.rest.now) (omega (arith, c.in-ok-checked-mul.ensures, c.in-err-n.ensures)) in
     search rules
 
 pub loop-rest-preserved : goal.loop-rest-preserved
 loop-rest-preserved c =
-    let s = step c.loop_rest.n c.loop_rest.rest.now (omega arith) (omega arith) in
-    let e : c.in-ok-n.n ≡ c.loop_rest.n * 10 + (get_or c.loop_rest.rest.now 0 0 - 48) = omega (arith, c.in-ok-checked-mul.ensures, c.in-ok-n.ensures) in
+    let s = step c.loop-rest.n c.loop-rest.rest.now (omega arith) (omega arith) in
+    let e : c.in-ok-n.n ≡ c.loop-rest.n * 10 + (get_or c.loop-rest.rest.now 0 0 - 48) = omega (arith, c.in-ok-checked-mul.ensures, c.in-ok-n.ensures) in
     (omega (arith, c.in-ok-n.ensures), rw e (search rules))
 
 pub returns : goal.returns
 returns c =
-    let no_digit : 48 ≤ get_or c.loop_rest.rest.now 0 0 → get_or c.loop_rest.rest.now 0 0 ≤ 57 → ⊥ =
-    λ low high. let h = some c.loop_rest.rest.now low in elim c.if-rest-lt1.branch [ in-default-default w ↦ search rules | in-default-default·2 w ↦ omega arith | in-default-default·3 w ↦ omega arith ] in
-    let s = stop c.loop_rest.n c.loop_rest.rest.now c.loop_rest.invariant.0 no_digit in search rules
+    let no_digit : 48 ≤ get_or c.loop-rest.rest.now 0 0 → get_or c.loop-rest.rest.now 0 0 ≤ 57 → ⊥ =
+    λ low high. let h = some c.loop-rest.rest.now low in elim c.if-rest-lt1.branch [ in-default-default w ↦ search rules | in-default-default·2 w ↦ omega arith | in-default-default·3 w ↦ omega arith ] in
+    let s = stop c.loop-rest.n c.loop-rest.rest.now c.loop-rest.invariant.0 no_digit in search rules

@@ -1,8 +1,6 @@
-use Rattle.std.proofs.Common.{◌≡◌, ℕ, ◌+◌, ◌≤◌, Bool, true, false, vec_items, vec_len, sym, ap, ◌∙◌, arith, rules}
-use Rattle.graph.specs.Seats.{all_known}
+use Rattle.std.proofs.Common.{◌≡◌, ℕ, ◌+◌, ◌≤◌, Bool, true, false, vec_items, sym, ap, ◌∙◌, arith, rules}
 use Rattle.graph.specs.Stages.{is_ruled}
 use Rattle.graph.proofs.Nils.{nil}
-use Rattle.graph.proofs.Seated.{one_more}
 use Rattle.graph.proofs.Listed.{area_pushed, area_none}
 use Rattle.graph.proofs.read_sheet.ReadSheet.push_actor.Goals as goal
 
@@ -31,7 +29,7 @@ invariant-of-self c =
                     (λ e. c.requires.first),
                     (
                       area_pushed (vec_items s.objects.list) (vec_items c.push.new.self.list) (vec_items s.actors) (vec_items c.push-reserved.new.self) (vec_items s.links.list) c.args.actor _ s.listed links (omega arith) (c.len-number.ensures ∙ s.actors.ok.0) c.push.ensures.items c.push-reserved.ensures.items,
-                      (s.cored, (one_more 8 (vec_items s.actors) (vec_items c.push-reserved.new.self) c.args.actor s.seated c.requires.seated c.push-reserved.ensures.items, (ap (λ ks. all_known (vec_len c.push-reserved.new.self) ks) links, tt))),
+                      tt,
                     ),
                   ),
                 ),
@@ -63,7 +61,7 @@ invariant-of-self-else-actor-gt0 c =
                     (λ e. c.requires.first),
                     (
                       area_none (vec_items s.objects.list) (vec_items s.actors) (vec_items c.push-reserved.new.self) (vec_items s.links.list) c.args.actor s.listed links (omega arith) c.push-reserved.ensures.items,
-                      (s.cored, (one_more 8 (vec_items s.actors) (vec_items c.push-reserved.new.self) c.args.actor s.seated c.requires.seated c.push-reserved.ensures.items, (ap (λ ks. all_known (vec_len c.push-reserved.new.self) ks) links, tt))),
+                      tt,
                     ),
                   ),
                 ),

@@ -1,13 +1,11 @@
-use Rattle.std.proofs.Common.{◌≡◌, vec_items, vec_len, sym, ap, ◌∙◌, arith, rules}
+use Rattle.std.proofs.Common.{◌≡◌, vec_items, sym, ap, ◌∙◌, arith, rules}
 use Rattle.rules.specs.declared.sheet.Link.TheVariants.{Delayed}
-use Rattle.graph.proofs.Known.{fifo_known, link_more}
 use Rattle.graph.proofs.Listed.{buffer_pushed}
 use Rattle.graph.proofs.read_sheet.ReadSheet.take_delayed.Goals as goal
 
 pub invariant-of-self : goal.invariant-of-self
 invariant-of-self c =
-    let s = c.args.self.now in
-    let known = fifo_known (vec_len s.actors) s.links.fifos c.args.fifo c.in-ok-judge-fifo.ensures in (
+    let s = c.args.self.now in (
       s.layering,
       (
         s.layered,
@@ -25,7 +23,7 @@ invariant-of-self c =
                     search rules,
                     (
                       buffer_pushed (vec_items s.objects.list) (vec_items c.push.new.self.list) (vec_items s.actors) (vec_items s.links.list) (vec_items c.push-delayed.new.self.list) (Delayed c.args.fifo) s.listed c.push.ensures.items c.push-delayed.ensures.items,
-                      (s.cored, (s.seated, (link_more (vec_len s.actors) (vec_items s.links.list) (vec_items c.push-delayed.new.self.list) (Delayed c.args.fifo) s.known known.0 known.1 c.push-delayed.ensures.items, tt))),
+                      tt,
                     ),
                   ),
                 ),

@@ -5,4 +5,4 @@ use Rattle.graph.proofs.read_sheet.ReadSheet.take_machine.Goals as goal
 pub invariant-of-self : goal.invariant-of-self
 invariant-of-self c =
     let s = c.args.self.now in
-    (s.layering, (s.layered, (s.room, (s.few, (s.counted, (search rules, (λ e. s.headed (ap is_ruled c.in-Blank.is), (s.peopled, (s.listed, (search rules, (s.seated, (s.known, tt))))))))))))
+    (s.layering, (s.layered, (s.room, (s.few, (s.counted, (search rules, (λ e. s.headed (ap is_ruled c.in-Blank.is), (s.peopled, (s.listed, tt)))))))))

@@ -1,7 +1,0 @@
-// The lean order of a sheet, and its peak.
-
-pub mod faults;
-pub mod lean_order;
-pub mod listing;
-pub mod peak;
-pub mod ready;

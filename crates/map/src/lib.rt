@@ -1,5 +1,0 @@
-// The printed map of a layout.
-
-pub mod lengths;
-mod output;
-pub mod writing;

@@ -1,4 +1,0 @@
-pub mod Lasting
-pub mod Twins
-pub mod Reached
-pub mod Highest
