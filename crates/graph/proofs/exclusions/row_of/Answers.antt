@@ -4,18 +4,18 @@ use Rattle.graph.specs.Rows.{in_row}
 use Rattle.graph.specs.Excluding.{excluding}
 use Rattle.graph.proofs.Sets.{looked_more, looked_past, excluding_within}
 use Rattle.graph.proofs.exclusions.row_of.Goals as goal
-use Rattle.graph.proofs.exclusions.row_of.Goals.{then-are-excluding, else-are-excluding}
+use Rattle.graph.proofs.exclusions.row_of.Goals.{then-are_excluding, else-are_excluding}
 
 pub loop-y-preserved : goal.loop-y-preserved
 loop-y-preserved c =
     let test = excluding c.args.order.now.rows c.args.objects.now c.args.x in
     let so : Row → Type 0 = λ row. (z : ℕ) → in_row row.words z ≡ (ltb z (c.loop-y.y + 1) && test z) in
-    elim c.if-are-excluding.branch [
-      | then-are-excluding w ↦
+    elim c.if-are_excluding.branch [
+      | then-are_excluding w ↦
           subst so (sym w.row-is)
-          (looked_more c.loop-y.row.words w.adding-row.result.words test c.loop-y.y (omega arith) c.loop-y.invariant w.adding-row.ensures (sym w.if-are-excluding.ensures))
-      | else-are-excluding w ↦
-          subst so (sym w.row-is) (looked_past c.loop-y.row.words test c.loop-y.y c.loop-y.invariant (sym w.if-are-excluding.ensures))
+          (looked_more c.loop-y.row.words w.adding-row.result.words test c.loop-y.y (omega arith) c.loop-y.invariant w.adding-row.ensures (sym w.if-are_excluding.ensures))
+      | else-are_excluding w ↦
+          subst so (sym w.row-is) (looked_past c.loop-y.row.words test c.loop-y.y c.loop-y.invariant (sym w.if-are_excluding.ensures))
     ]
 
 pub returns : goal.returns

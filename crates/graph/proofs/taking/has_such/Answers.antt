@@ -4,16 +4,16 @@ use Rattle.rules.specs.declared.sheet.Layer.TheVariants.{LowLine}
 use Rattle.graph.specs.Judging.{has_sort}
 use Rattle.graph.proofs.taking.has_such.Goals as goal
 
-pub returns-then-are-of-one-sort : goal.returns-then-are-of-one-sort
-returns-then-are-of-one-sort c =
+pub returns-then-are_of_one_sort : goal.returns-then-are_of_one_sort
+returns-then-are_of_one_sort c =
     let s = at_drop_more (has_sort c.args.layer) c.args.layers.now c.loop-known.known-index (LowLine 0) c.loop-known-test.true in
-    ap (λ (b : Bool). b || has_sort c.args.layer (drop (c.loop-known.known-index + 1) c.args.layers.now)) c.if-are-of-one-sort.ensures
+    ap (λ (b : Bool). b || has_sort c.args.layer (drop (c.loop-known.known-index + 1) c.args.layers.now)) c.if-are_of_one_sort.ensures
     ∙ (sym s ∙ c.loop-known.invariant)
 
 pub loop-known-preserved : goal.loop-known-preserved
 loop-known-preserved c =
     let s = at_drop_more (has_sort c.args.layer) c.args.layers.now c.loop-known.known-index (LowLine 0) c.loop-known-test.true in
-    ap (λ (b : Bool). b || has_sort c.args.layer (drop (c.loop-known.known-index + 1) c.args.layers.now)) c.if-are-of-one-sort.ensures
+    ap (λ (b : Bool). b || has_sort c.args.layer (drop (c.loop-known.known-index + 1) c.args.layers.now)) c.if-are_of_one_sort.ensures
     ∙ (sym s ∙ c.loop-known.invariant)
 
 pub returns : goal.returns

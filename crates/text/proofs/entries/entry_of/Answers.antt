@@ -35,10 +35,10 @@ pub returns-in-S : goal.returns-in-S
 unfolding entry_of
 returns-in-S c = search (rules, take_rest c.args.line.now 1)
 
-pub returns-in-default : goal.returns-in-default
+pub returns-in_default : goal.returns-in_default
 unfolding entry_of
-returns-in-default c = search rules
+returns-in_default c = search rules
 
-pub returns-in-default-2 : goal.returns-in-default-2
+pub returns-in_default-2 : goal.returns-in_default-2
 unfolding entry_of
-returns-in-default-2 c = search rules
+returns-in_default-2 c = search rules

@@ -7,10 +7,10 @@ pub returns : goal.returns
 unfolding kind_on
 returns c = search (rules, take_rest c.args.s.now 2)
 
-pub returns-in-default : goal.returns-in-default
+pub returns-in_default : goal.returns-in_default
 unfolding kind_on
-returns-in-default c = search rules
+returns-in_default c = search rules
 
-pub returns-in-default-kind-of : goal.returns-in-default-kind-of
+pub returns-in_default-kind_of : goal.returns-in_default-kind_of
 unfolding kind_on
-returns-in-default-kind-of c = search rules
+returns-in_default-kind_of c = search rules

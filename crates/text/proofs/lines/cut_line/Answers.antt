@@ -13,4 +13,4 @@ cut_at xs i h e before =
     (cc, λ k l q. let u : k < i = omega (arith, length-take (i - 0) xs) in let v : k < i - 0 = omega arith in before k (omega arith) u (sym (get_or-take (i - 0) xs k 0 v) ∙ q))
 
 pub returns : goal.returns
-returns c = let f = c.in-ok-i.ensures in cut_at c.args.text.now c.in-ok-i.i f.1 f.2 f.3
+returns c = let f = c.in_ok-i.ensures in cut_at c.args.text.now c.in_ok-i.i f.1 f.2 f.3

@@ -7,6 +7,6 @@ pub returns : goal.returns
 unfolding field_on
 returns c = search (rules, first_rest c.args.s.now 0)
 
-pub returns-in-default : goal.returns-in-default
+pub returns-in_default : goal.returns-in_default
 unfolding field_on
-returns-in-default c = search rules
+returns-in_default c = search rules

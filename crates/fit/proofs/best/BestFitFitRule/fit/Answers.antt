@@ -9,7 +9,7 @@ loop-gap-preserved c =
 
 pub returns-in-Some : goal.returns-in-Some
 returns-in-Some c =
-    c.place-in.ensures ∙ sym (ap (taken c.args.q.size c.args.q.grain) c.in-Some.is)
+    c.place_in.ensures ∙ sym (ap (taken c.args.q.size c.args.q.grain) c.in-Some.is)
     ∙ best_ends c.args.q.gaps.now c.args.q.size c.args.q.grain c.loop-gap.gap-index _ c.loop-gap.invariant c.loop-gap-test.false
 
 pub returns-in-None : goal.returns-in-None

@@ -8,7 +8,7 @@ returns-in-Some c =
 
 pub loop-gap-preserved : goal.loop-gap-preserved
 loop-gap-preserved c =
-    first_passes c.args.q.gaps.now c.args.q.size c.args.q.grain c.loop-gap.gap-index c.loop-gap.invariant _ c.loop-gap-test.true (sym c.in-default.ensures)
+    first_passes c.args.q.gaps.now c.args.q.size c.args.q.grain c.loop-gap.gap-index c.loop-gap.invariant _ c.loop-gap-test.true (sym c.in_default.ensures)
 
 pub returns : goal.returns
 returns c =

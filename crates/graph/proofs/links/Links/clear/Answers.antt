@@ -4,8 +4,8 @@ use Rattle.graph.specs.Orders.{Heard, Meant}
 use Rattle.graph.proofs.Ties.{heard_none, meant_none}
 use Rattle.graph.proofs.links.Links.clear.Goals as goal
 
-pub invariant-of-self : goal.invariant-of-self
-invariant-of-self c =
+pub invariant_of-self : goal.invariant_of-self
+invariant_of-self c =
     let empty = c.clear.ensures.items in
     let rows = c.none-self.result.rows in (
       search rules,

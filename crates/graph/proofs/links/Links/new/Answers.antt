@@ -4,9 +4,9 @@ use Rattle.graph.specs.Orders.{Heard, Meant}
 use Rattle.graph.proofs.Ties.{heard_none, meant_none}
 use Rattle.graph.proofs.links.Links.new.Goals as goal
 
-pub invariant-of-result : goal.invariant-of-result
-invariant-of-result c =
-    let empty = c.in-ok-list.ensures.items in
+pub invariant_of-result : goal.invariant_of-result
+invariant_of-result c =
+    let empty = c.in_ok-list.ensures.items in
     let rows = c.none-order.result.rows in (
       search rules,
       (

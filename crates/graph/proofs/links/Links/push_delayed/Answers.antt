@@ -5,12 +5,12 @@ use Rattle.graph.specs.Orders.{Heard, Meant}
 use Rattle.graph.proofs.Ties.{heard_delayed, meant_delayed, fifo_count_more, delayed_idle}
 use Rattle.graph.proofs.links.Links.push_delayed.Goals as goal
 
-pub invariant-of-self : goal.invariant-of-self
-invariant-of-self c =
+pub invariant_of-self : goal.invariant_of-self
+invariant_of-self c =
     let links = c.args.self.now in
     let ks = vec_items links.list in
     let k = Delayed c.args.fifo in
-    let grown = c.push-reserved.ensures.items in
+    let grown = c.push_reserved.ensures.items in
     let rows = links.order.rows in (
       search rules,
       (

@@ -2,10 +2,10 @@ use Rattle.std.proofs.Common.{◌<◌, ◌≤◌, rules}
 use Rattle.graph.proofs.SizeLaws.{sizes_more}
 use Rattle.graph.proofs.objects.Objects.push.Goals as goal
 
-pub invariant-of-self : goal.invariant-of-self
-invariant-of-self c =
-    let e = c.push-reserved.ensures.items in
-    let l = c.push-reserved.ensures.len in
+pub invariant_of-self : goal.invariant_of-self
+invariant_of-self c =
+    let e = c.push_reserved.ensures.items in
+    let l = c.push_reserved.ensures.len in
     let k = c.args.self.now.list.ok.0 in (
       search rules,
       (

@@ -2,5 +2,5 @@ use Rattle.std.proofs.Common.{◌≡◌, false, ltb, sym, ◌∙◌, arith, rule
 use Rattle.graph.proofs.Tables.{past_rows}
 use Rattle.graph.proofs.order.Order.before.Goals as goal
 
-pub returns-else-a-lt-MOST-ACTORS : goal.returns-else-a-lt-MOST-ACTORS
-returns-else-a-lt-MOST-ACTORS c = let p = past_rows c.args.self.now.rows c.args.a c.args.b (omega (arith, c.args.self.now.long)) in search rules
+pub returns-else-a-lt-MOST_ACTORS : goal.returns-else-a-lt-MOST_ACTORS
+returns-else-a-lt-MOST_ACTORS c = let p = past_rows c.args.self.now.rows c.args.a c.args.b (omega (arith, c.args.self.now.long)) in search rules

@@ -3,29 +3,29 @@ use Rattle.graph.specs.Rows.{before, joined}
 use Rattle.graph.proofs.Relations.{through_from_test, test_from_through, through_alike, joined_through, joined_irreflexive}
 use Rattle.graph.proofs.Tables.{Growing, growing_skip, growing_write, growing_whole, row_gains, may_join_parts}
 use Rattle.graph.proofs.order.Order.joined.Goals as goal
-use Rattle.graph.proofs.order.Order.joined.Goals.{then-at-or-before, else-at-or-before}
+use Rattle.graph.proofs.order.Order.joined.Goals.{then-at_or_before, else-at_or_before}
 
 pub loop-x-preserved : goal.loop-x-preserved
 loop-x-preserved c =
     let old = c.args.self.now.rows in
     let parts = may_join_parts old c.args.a c.args.b c.requires.allowed in
-    elim c.if-at-or-before.branch [
-      | then-at-or-before w ↦
+    elim c.if-at_or_before.branch [
+      | then-at_or_before w ↦
           rw w.rows-is
           (growing_write old c.loop-x.rows c.args.a c.args.b c.loop-x.x _ c.loop-x-test.true
           (row_gains old (get_or c.loop-x.rows c.loop-x.x 0) c.with-gained.result c.args.a c.args.b c.loop-x.x parts.1
-          (c.loop-x.invariant.rest c.loop-x.x (omega arith)) c.with-gained.ensures.bits (sym w.if-at-or-before.ensures))
+          (c.loop-x.invariant.rest c.loop-x.x (omega arith)) c.with-gained.ensures.bits (sym w.if-at_or_before.ensures))
           c.loop-x.invariant)
-      | else-at-or-before w ↦
-          rw w.rows-is (growing_skip old c.loop-x.rows c.args.a c.args.b c.loop-x.x (sym w.if-at-or-before.ensures) c.loop-x.invariant)
+      | else-at_or_before w ↦
+          rw w.rows-is (growing_skip old c.loop-x.rows c.args.a c.args.b c.loop-x.x (sym w.if-at_or_before.ensures) c.loop-x.invariant)
     ]
 
 -- after the last turn every row is written
 written : (old rows : List ℕ) (a b i : ℕ) → length old ≡ 64 → a < 64 → 64 ≤ i → i ≤ 64 → Growing old rows a b i → (x y : ℕ) → before rows x y ≡ joined (before old) a b x y
 written old rows a b i l known up down g = growing_whole old rows a b l known (subst (Growing old rows a b) (let e : i ≡ 64 = omega arith in e) g)
 
-pub invariant-of-result : goal.invariant-of-result
-invariant-of-result c =
+pub invariant_of-result : goal.invariant_of-result
+invariant_of-result c =
     let order = c.args.self.now in
     let parts = may_join_parts order.rows c.args.a c.args.b c.requires.allowed in
     let same = written order.rows c.loop-x.rows c.args.a c.args.b c.loop-x.x order.long parts.0 c.loop-x-test.false c.loop-x.auto.x-end c.loop-x.invariant in

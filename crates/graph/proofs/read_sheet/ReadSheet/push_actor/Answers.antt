@@ -8,8 +8,8 @@ use Rattle.graph.proofs.read_sheet.ReadSheet.push_actor.Goals as goal
 never_both : (b : Bool) → b ≡ true → b ≡ false → ⊥
 never_both b p q = let z : true ≡ false = sym p ∙ q in let k : ◌≡◌ {A = ℕ} 0 1 = cc in omega arith
 
-pub invariant-of-self : goal.invariant-of-self
-invariant-of-self c =
+pub invariant_of-self : goal.invariant_of-self
+invariant_of-self c =
     let s = c.args.self.now in
     let links = nil (vec_items s.links.list) (sym s.links.list.ok.0 ∙ c.requires.first) in (
       s.layering,
@@ -20,7 +20,7 @@ invariant-of-self c =
           (
             search rules,
             (
-              omega (arith, s.counted, c.push.ensures.len, c.push-reserved.ensures.len),
+              omega (arith, s.counted, c.push.ensures.len, c.push_reserved.ensures.len),
               (
                 s.grained,
                 (
@@ -28,7 +28,7 @@ invariant-of-self c =
                   (
                     (λ e. c.requires.first),
                     (
-                      area_pushed (vec_items s.objects.list) (vec_items c.push.new.self.list) (vec_items s.actors) (vec_items c.push-reserved.new.self) (vec_items s.links.list) c.args.actor _ s.listed links (omega arith) (c.len-number.ensures ∙ s.actors.ok.0) c.push.ensures.items c.push-reserved.ensures.items,
+                      area_pushed (vec_items s.objects.list) (vec_items c.push.new.self.list) (vec_items s.actors) (vec_items c.push_reserved.new.self) (vec_items s.links.list) c.args.actor _ s.listed links (omega arith) (c.len-number.ensures ∙ s.actors.ok.0) c.push.ensures.items c.push_reserved.ensures.items,
                       tt,
                     ),
                   ),
@@ -40,8 +40,8 @@ invariant-of-self c =
       ),
     )
 
-pub invariant-of-self-else-actor-gt0 : goal.invariant-of-self-else-actor-gt0
-invariant-of-self-else-actor-gt0 c =
+pub invariant_of-self-else-actor-gt0 : goal.invariant_of-self-else-actor-gt0
+invariant_of-self-else-actor-gt0 c =
     let s = c.args.self.now in
     let links = nil (vec_items s.links.list) (sym s.links.list.ok.0 ∙ c.requires.first) in (
       s.layering,
@@ -52,7 +52,7 @@ invariant-of-self-else-actor-gt0 c =
           (
             search rules,
             (
-              omega (arith, s.counted, c.push-reserved.ensures.len),
+              omega (arith, s.counted, c.push_reserved.ensures.len),
               (
                 s.grained,
                 (
@@ -60,7 +60,7 @@ invariant-of-self-else-actor-gt0 c =
                   (
                     (λ e. c.requires.first),
                     (
-                      area_none (vec_items s.objects.list) (vec_items s.actors) (vec_items c.push-reserved.new.self) (vec_items s.links.list) c.args.actor s.listed links (omega arith) c.push-reserved.ensures.items,
+                      area_none (vec_items s.objects.list) (vec_items s.actors) (vec_items c.push_reserved.new.self) (vec_items s.links.list) c.args.actor s.listed links (omega arith) c.push_reserved.ensures.items,
                       tt,
                     ),
                   ),

@@ -3,8 +3,8 @@ use Rattle.rules.specs.declared.sheet.Link.TheVariants.{Delayed}
 use Rattle.graph.proofs.Listed.{buffer_pushed}
 use Rattle.graph.proofs.read_sheet.ReadSheet.take_delayed.Goals as goal
 
-pub invariant-of-self : goal.invariant-of-self
-invariant-of-self c =
+pub invariant_of-self : goal.invariant_of-self
+invariant_of-self c =
     let s = c.args.self.now in (
       s.layering,
       (
@@ -22,7 +22,7 @@ invariant-of-self c =
                   (
                     search rules,
                     (
-                      buffer_pushed (vec_items s.objects.list) (vec_items c.push.new.self.list) (vec_items s.actors) (vec_items s.links.list) (vec_items c.push-delayed.new.self.list) (Delayed c.args.fifo) s.listed c.push.ensures.items c.push-delayed.ensures.items,
+                      buffer_pushed (vec_items s.objects.list) (vec_items c.push.new.self.list) (vec_items s.actors) (vec_items s.links.list) (vec_items c.push_delayed.new.self.list) (Delayed c.args.fifo) s.listed c.push.ensures.items c.push_delayed.ensures.items,
                       tt,
                     ),
                   ),

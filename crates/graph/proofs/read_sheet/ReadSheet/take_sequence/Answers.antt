@@ -2,8 +2,8 @@ use Rattle.std.proofs.Common.{vec_items, arith, rules}
 use Rattle.graph.proofs.Listed.{ordering_pushed}
 use Rattle.graph.proofs.read_sheet.ReadSheet.take_sequence.Goals as goal
 
-pub invariant-of-self : goal.invariant-of-self
-invariant-of-self c =
+pub invariant_of-self : goal.invariant_of-self
+invariant_of-self c =
     let s = c.args.self.now in (
       s.layering,
       (
@@ -21,7 +21,7 @@ invariant-of-self c =
                   (
                     search rules,
                     (
-                      ordering_pushed (vec_items s.objects.list) (vec_items s.actors) (vec_items s.links.list) (vec_items c.push-ordered.new.self.list) c.args.sequence c.push-ordered.result s.listed c.push-ordered.ensures.items,
+                      ordering_pushed (vec_items s.objects.list) (vec_items s.actors) (vec_items s.links.list) (vec_items c.push_ordered.new.self.list) c.args.sequence c.push_ordered.result s.listed c.push_ordered.ensures.items,
                       tt,
                     ),
                   ),
