@@ -8,11 +8,11 @@ use Rattle.layout.proofs.asking.find_place.Goals as goal
 
 pub returns-in-Some : goal.returns-in-Some
 returns-in-Some g c =
-    let n = c.find-gaps-n.result in
-    let gs = take (n - 0) c.find-gaps-n.new.out in
+    let n = c.find_gaps-n.result in
+    let gs = take (n - 0) c.find_gaps-n.new.out in
     let z : n - 0 ≡ n = omega arith in
-    let up : ascend_from 0 gs ≡ true = rw z c.find-gaps-n.ensures.ascending in
-    let all : All (λ h. h.end ≤ c.args.space.capacity) gs = rw z c.find-gaps-n.ensures.within in
+    let up : ascend_from 0 gs ≡ true = rw z c.find_gaps-n.ensures.ascending in
+    let all : All (λ h. h.end ≤ c.args.space.capacity) gs = rw z c.find_gaps-n.ensures.within in
     let few : length gs ≤ 256 = search rules in
     let some = g.met.W.ObjectSet.filled c.args.world.now c.args.x c.requires.known in
     let small = g.met.W.ObjectSet.small c.args.world.now c.args.x c.requires.known in

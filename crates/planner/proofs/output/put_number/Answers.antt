@@ -7,4 +7,4 @@ pub returns : goal.returns
 returns c =
     let l = take_rest c.spell-i.new.buf c.spell-i.result in
     let t = rw c.spell-i.array_long at l in
-    subst (λ bs. Puts c.args.out.now c.args.at bs c.put-bytes.new.out c.put-bytes.result) (t ∙ c.spell-i.ensures.spelled) c.put-bytes.ensures
+    subst (λ bs. Puts c.args.out.now c.args.at bs c.put_bytes.new.out c.put_bytes.result) (t ∙ c.spell-i.ensures.spelled) c.put_bytes.ensures

@@ -24,8 +24,8 @@ loop-left-init c =
       ap (λ ys. decimal c.args.n ++ ys) none ∙ append-nil (decimal c.args.n),
     )
 
-pub overflow-sub-i : goal.overflow-sub-i
-overflow-sub-i c = let s = shorter c.loop-left.left (omega arith) (omega arith) in let t = decimal_nonempty (c.loop-left.left / 10) (omega arith) in omega arith
+pub overflow_sub-i : goal.overflow_sub-i
+overflow_sub-i c = let s = shorter c.loop-left.left (omega arith) (omega arith) in let t = decimal_nonempty (c.loop-left.left / 10) (omega arith) in omega arith
 
 pub loop-left-preserved : goal.loop-left-preserved
 loop-left-preserved c =

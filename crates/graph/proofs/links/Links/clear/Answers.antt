@@ -7,19 +7,4 @@ use Rattle.graph.proofs.links.Links.clear.Goals as goal
 pub invariant_of-self : goal.invariant_of-self
 invariant_of-self c =
     let empty = c.clear.ensures.items in
-    let rows = c.none-self.result.rows in (
-      search rules,
-      (
-        sym (ap fifo_count empty),
-        (
-          search rules,
-          (
-            subst (Heard rows) (sym empty) (heard_none rows c.none-self.ensures),
-            (
-              subst (Meant rows) (sym empty) (meant_none rows c.none-self.ensures),
-              tt,
-            ),
-          ),
-        ),
-      ),
-    )
+    let rows = c.none-self.result.rows in record { space = search rules; counted = sym (ap fifo_count empty); few = search rules; heard = subst (Heard rows) (sym empty) (heard_none rows c.none-self.ensures); meant = subst (Meant rows) (sym empty) (meant_none rows c.none-self.ensures) }

@@ -7,19 +7,4 @@ use Rattle.graph.proofs.links.Links.new.Goals as goal
 pub invariant_of-result : goal.invariant_of-result
 invariant_of-result c =
     let empty = c.in_ok-list.ensures.items in
-    let rows = c.none-order.result.rows in (
-      search rules,
-      (
-        sym (ap fifo_count empty),
-        (
-          search rules,
-          (
-            subst (Heard rows) (sym empty) (heard_none rows c.none-order.ensures),
-            (
-              subst (Meant rows) (sym empty) (meant_none rows c.none-order.ensures),
-              tt,
-            ),
-          ),
-        ),
-      ),
-    )
+    let rows = c.none-order.result.rows in record { space = search rules; counted = sym (ap fifo_count empty); few = search rules; heard = subst (Heard rows) (sym empty) (heard_none rows c.none-order.ensures); meant = subst (Meant rows) (sym empty) (meant_none rows c.none-order.ensures) }

@@ -11,19 +11,4 @@ invariant_of-self c =
     let ks = vec_items links.list in
     let k = Delayed c.args.fifo in
     let grown = c.push_reserved.ensures.items in
-    let rows = links.order.rows in (
-      search rules,
-      (
-        (let count = ap fifo_count grown ∙ fifo_count_more ks k in omega (arith, links.counted)),
-        (
-          search rules,
-          (
-            subst (Heard rows) (sym grown) (heard_delayed rows ks k (delayed_idle c.args.fifo) links.heard),
-            (
-              subst (Meant rows) (sym grown) (meant_delayed rows ks k (delayed_idle c.args.fifo) links.meant),
-              tt,
-            ),
-          ),
-        ),
-      ),
-    )
+    let rows = links.order.rows in record { space = search rules; counted = (let count = ap fifo_count grown ∙ fifo_count_more ks k in omega (arith, links.counted)); few = search rules; heard = subst (Heard rows) (sym grown) (heard_delayed rows ks k (delayed_idle c.args.fifo) links.heard); meant = subst (Meant rows) (sym grown) (meant_delayed rows ks k (delayed_idle c.args.fifo) links.meant) }

@@ -12,19 +12,4 @@ invariant_of-self c =
     let k = Plain c.args.fifo in
     let grown = c.push_reserved.ensures.items in
     let rows = c.in-Some.order.rows in
-    let same = c.in-Some.ensures.joined in (
-      search rules,
-      (
-        (let count = ap fifo_count grown ∙ fifo_count_more ks k in omega (arith, links.counted)),
-        (
-          search rules,
-          (
-            subst (Heard rows) (sym grown) (heard_more links.order.rows rows ks k (by_fifo c.args.fifo) same links.heard links.meant),
-            (
-              subst (Meant rows) (sym grown) (meant_more links.order.rows rows ks k (by_fifo c.args.fifo) same links.heard links.meant),
-              tt,
-            ),
-          ),
-        ),
-      ),
-    )
+    let same = c.in-Some.ensures.joined in record { space = search rules; counted = (let count = ap fifo_count grown ∙ fifo_count_more ks k in omega (arith, links.counted)); few = search rules; heard = subst (Heard rows) (sym grown) (heard_more links.order.rows rows ks k (by_fifo c.args.fifo) same links.heard links.meant); meant = subst (Meant rows) (sym grown) (meant_more links.order.rows rows ks k (by_fifo c.args.fifo) same links.heard links.meant) }

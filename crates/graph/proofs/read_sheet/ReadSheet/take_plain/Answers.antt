@@ -10,34 +10,7 @@ use Rattle.graph.proofs.read_sheet.ReadSheet.take_plain.Goals as goal
 
 pub invariant_of-self-2 : goal.invariant_of-self-2
 invariant_of-self-2 c =
-    let s = c.args.self.now in (
-      s.layering,
-      (
-        s.layered,
-        (
-          s.room,
-          (
-            s.few,
-            (
-              search rules,
-              (
-                s.grained,
-                (
-                  s.headed,
-                  (
-                    search rules,
-                    (
-                      buffer_pushed (vec_items s.objects.list) (vec_items c.push.new.self.list) (vec_items s.actors) (vec_items s.links.list) (vec_items c.push_plain.new.self.list) (Plain c.args.fifo) s.listed c.push.ensures.items c.if-not-push_plain.ensures.items,
-                      tt,
-                    ),
-                  ),
-                ),
-              ),
-            ),
-          ),
-        ),
-      ),
-    )
+    let s = c.args.self.now in record { layering = s.layering; layered = s.layered; room = s.room; few = s.few; counted = search rules; grained = s.grained; headed = s.headed; peopled = search rules; listed = buffer_pushed (vec_items s.objects.list) (vec_items c.push.new.self.list) (vec_items s.actors) (vec_items s.links.list) (vec_items c.push_plain.new.self.list) (Plain c.args.fifo) s.listed c.push.ensures.items c.if-not-push_plain.ensures.items }
 
 pub returns-in_err-judge_fifo : goal.returns-in_err-judge_fifo
 returns-in_err-judge_fifo c =
