@@ -1,4 +1,5 @@
 // Fabrics: cores, memory banks, and the homes of objects in them.
+#![tactic(auto)]
 
 mod boards;
 mod fabric;

@@ -1,4 +1,5 @@
 // Fit rules: where an object goes among the gaps of a bank.
+#![tactic(auto)]
 
 mod best;
 mod first;

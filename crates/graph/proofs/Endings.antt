@@ -1,10 +1,10 @@
 -- What the end of a text finds.
-use Rattle.std.proofs.Common.{◌≡◌, ℕ, ◌<◌, false, List, [], length, vec_items, vec_len, sym, refl, ap, ◌∙◌, arith}
+use Rattle.std.proofs.Common.{◌≡◌, ℕ, false, List, [], length, vec_items, vec_len, sym, refl, ap, ◌∙◌, arith}
 use Rattle.rules.specs.declared.sheet.Layer.{Layer}
 use Rattle.rules.specs.declared.sheet.Actor.{Actor}
 use Rattle.rules.specs.declared.sheet.Link.{Link}
 use Rattle.rules.specs.Sheets.{Sheet}
-use Rattle.rules.specs.Drafts.{Draft, sheet, actors_of}
+use Rattle.rules.specs.Drafts.{actors_of}
 use Rattle.rules.specs.Reading.{Complete}
 use Rattle.graph.specs.declared.stage.Stage.{Stage}
 use Rattle.graph.specs.declared.stage.Stage.TheVariants.{Blank, Machined, Ruled}

@@ -1,6 +1,6 @@
 -- The checks of the reader, tried one after the other, are the refusals of the rules.
-use Rattle.std.proofs.Common.{◌≡◌, ℕ, suc, ◌<◌, ◌≤◌, Bool, true, false, not, ◌&&◌, ◌||◌, eqb, ltb, leb, ◌⊎◌, List, [], ◌∷◌, length, Some, None, Option, sym, refl, ap, ◌∙◌, subst, inl, inr, ⊎_elim, arith}
-use Rattle.std.proofs.lemmas.Bool.{and_parts, and_from, leb-true, le-leb, ltb-true, ltb-false, lt-ltb, eqb-true, eq-eqb, not-true, or_cases, or_left, or_right}
+use Rattle.std.proofs.Common.{◌≡◌, ℕ, Bool, true, false, not, ◌&&◌, eqb, ltb, leb, List, [], ◌∷◌, length, Some, None, Option, sym, refl, ap, ◌∙◌, inl, inr, arith}
+use Rattle.std.proofs.lemmas.Bool.{and_parts, and_from, leb-true, le-leb, ltb-true, ltb-false, eqb-true, eq-eqb, not-true}
 use Rattle.rules.specs.declared.sheet.Machine.{Machine}
 use Rattle.rules.specs.declared.sheet.Fit.{Fit}
 use Rattle.rules.specs.declared.sheet.Layer.{Layer}
@@ -13,13 +13,13 @@ use Rattle.rules.specs.Lists.{◌∈◌, Lowest}
 use Rattle.rules.specs.Sheets.{Sheet}
 use Rattle.rules.specs.Drafts.{Draft, nothing, machined, sheet, InTurn, machine_first, fit_next, actor_then, Refuses, out_of_turn, off_range, unknown_core, too_many_actors, Free}
 use Rattle.rules.proofs.Meeting.{turns, in_turn}
-use Rattle.rules.proofs.Passing.{Passed, Fails, passed_none, passed_more, lowest_at, free_at}
+use Rattle.rules.proofs.Passing.{Passed, passed_none, passed_more, lowest_at, free_at}
 use Rattle.graph.specs.declared.faults.Refusal.{Refusal}
 use Rattle.graph.specs.declared.faults.Refusal.TheVariants.{OutOfTurn, OffRange, Unknown, TooMany}
 use Rattle.graph.specs.declared.stage.Stage.{Stage}
 use Rattle.graph.specs.declared.stage.Stage.TheVariants.{Blank, Machined, Ruled}
 use Rattle.graph.specs.Ranges.{machine_in_range}
-use Rattle.graph.specs.Judging.{unless, judge_machine, judge_fit, judge_layer, judge_actor, same_sort, has_sort, layer_in_range}
+use Rattle.graph.specs.Judging.{unless, judge_machine, judge_fit, judge_layer, judge_actor, has_sort, layer_in_range}
 use Rattle.graph.specs.Taking.{refusal_number, draft_from}
 use Rattle.graph.proofs.Nils.{nil}
 use Rattle.graph.proofs.Ranged.{refuted, machine_told, machine_heard, layer_told, layer_heard}

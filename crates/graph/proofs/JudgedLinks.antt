@@ -1,21 +1,18 @@
 -- The checks of a link are the refusals of the rules.
-use Rattle.std.proofs.Common.{◌≡◌, ℕ, ◌<◌, ◌≤◌, Bool, true, false, not, ◌&&◌, ◌||◌, eqb, ltb, leb, ◌⊎◌, List, [], ◌∷◌, length, Some, None, Option, sym, refl, ap, ◌∙◌, subst, inl, inr, ⊎_elim, arith}
-use Rattle.std.proofs.lemmas.Bool.{and_parts, and_from, ltb-true, ltb-false, lt-ltb, eqb-true, eq-eqb, not-true, not-false, or_cases, or_left, or_right}
-use Rattle.rules.specs.declared.sheet.Machine.{Machine}
-use Rattle.rules.specs.declared.sheet.Fit.{Fit}
+use Rattle.std.proofs.Common.{◌≡◌, ℕ, ◌<◌, ◌≤◌, Bool, true, false, not, ◌&&◌, eqb, ltb, ◌⊎◌, List, length, None, Option, sym, refl, ap, subst, inl, inr, ⊎_elim, arith}
+use Rattle.std.proofs.lemmas.Bool.{and_parts, ltb-true, ltb-false, lt-ltb, eqb-true, eq-eqb, not-true, or_cases, or_right}
 use Rattle.rules.specs.declared.sheet.Layer.{Layer}
 use Rattle.rules.specs.declared.sheet.Actor.{Actor}
 use Rattle.rules.specs.declared.sheet.Fifo.{Fifo}
 use Rattle.rules.specs.declared.sheet.Sequence.{Sequence}
 use Rattle.rules.specs.declared.sheet.Link.{Link}
 use Rattle.rules.specs.declared.sheet.Link.TheVariants.{Plain, Delayed, Ordered}
-use Rattle.rules.specs.declared.sheet.Entry.{Entry}
 use Rattle.rules.specs.declared.sheet.Entry.TheVariants.{NextLink}
-use Rattle.rules.specs.Sheets.{Sheet, core_in}
+use Rattle.rules.specs.Sheets.{core_in}
 use Rattle.rules.specs.Order.{Linked, edges}
-use Rattle.rules.specs.Drafts.{actors_of, links_of, Draft, nothing, machined, sheet, InTurn, InRange, Size, Refuses, out_of_turn, off_range, unknown_from, unknown_to, too_many_fifos, equal_ends, across_cores, backward, Free, Orders, by_fifo, by_sequence, Buffers, plain, delayed, from, to, fifo_count}
+use Rattle.rules.specs.Drafts.{actors_of, links_of, Draft, sheet, InTurn, InRange, Size, out_of_turn, off_range, unknown_from, unknown_to, too_many_fifos, equal_ends, across_cores, backward, Orders, by_fifo, by_sequence, Buffers, plain, delayed, from, to, fifo_count}
 use Rattle.rules.proofs.Meeting.{turns, in_turn}
-use Rattle.rules.proofs.Passing.{Passed, Fails, passed_none, passed_more, lowest_at, free_at}
+use Rattle.rules.proofs.Passing.{Passed, passed_none, passed_more, free_at}
 use Rattle.graph.specs.declared.faults.Refusal.{Refusal}
 use Rattle.graph.specs.declared.faults.Refusal.TheVariants.{OutOfTurn, OffRange, Unknown, TooMany, EqualEnds, AcrossCores, Backward}
 use Rattle.graph.specs.declared.stage.Stage.{Stage}
@@ -29,7 +26,7 @@ use Rattle.graph.specs.Taking.{draft_from}
 use Rattle.graph.proofs.Nils.{nil}
 use Rattle.graph.proofs.Ranged.{refuted, size_told, size_heard}
 use Rattle.graph.proofs.Ties.{told}
-use Rattle.graph.proofs.Judged.{Judgement, checked, untimely, timely}
+use Rattle.graph.proofs.Judged.{Judgement, checked, timely}
 
 -- one of two tests fails
 and_fails : (a b : Bool) → (a && b) ≡ false → (a ≡ false) ⊎ (b ≡ false)

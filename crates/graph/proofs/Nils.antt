@@ -1,5 +1,5 @@
 -- Lists without elements.
-use Rattle.std.proofs.Common.{◌≡◌, ℕ, List, [], ◌∷◌, length, refl, arith}
+use Rattle.std.proofs.Common.{◌≡◌, List, [], ◌∷◌, length, refl, arith}
 
 pub nil : {X : Type 0} (xs : List X) → length xs ≡ 0 → xs ≡ []
 nil [] h = refl

@@ -1,11 +1,11 @@
 -- Tables of rows.
-use Rattle.std.proofs.Common.{◌≡◌, ℕ, ◌+◌, ◌/◌, ◌%◌, ◌^◌, ◌<◌, ◌≤◌, Bool, true, false, not, ◌&&◌, ◌||◌, eqb, ltb, ◌≢◌, ◌⊎◌, List, length, get_or, set, replicate, sym, refl, ap, ◌∙◌, subst, inl, inr, ⊎_elim, arith, rules, ne_eqb}
+use Rattle.std.proofs.Common.{◌≡◌, ℕ, ◌+◌, ◌/◌, ◌%◌, ◌^◌, ◌<◌, ◌≤◌, Bool, true, false, not, ◌&&◌, ◌||◌, eqb, ltb, ◌≢◌, ◌⊎◌, List, length, get_or, set, replicate, sym, refl, ap, ◌∙◌, subst, inl, inr, arith, ne_eqb}
 use mathlib.Core.Bool.{or_comm}
 use lib.Bits.{bit_or}
 use Rattle.words.specs.Words.{bit}
 use Rattle.std.proofs.lemmas.List.{length-set, length-replicate, get_or-replicate, get_or_past, get_or-set_same, get_or-set_other}
 use Rattle.std.proofs.lemmas.Bool.{cases_lt, cases_eq, lt-ltb, and_parts, ltb-true, not-true}
-use Rattle.words.proofs.Bits.{bit_zero, bit_of_or, bit_with}
+use Rattle.words.proofs.Bits.{bit_zero, bit_of_or}
 use Rattle.graph.specs.Rows.{before, joined, up_to, may_join}
 
 -- no row, no bit

@@ -1,14 +1,13 @@
 -- From lines to the whole text.
-use Rattle.std.proofs.Common.{◌≡◌, ℕ, ◌<◌, ◌≤◌, Bool, true, false, List, ◌∷◌, ◌++◌, length, is_err, Ok, Err, Result, sym, refl, ap, ◌∙◌, subst, arith}
+use Rattle.std.proofs.Common.{◌≡◌, ℕ, ◌≤◌, true, false, List, ◌∷◌, ◌++◌, length, is_err, Ok, Err, Result, sym, subst, arith}
 use Rattle.text.specs.declared.faults.TextFault.{TextFault}
 use Rattle.text.specs.declared.faults.TextFault.TheVariants.{TooLong, NoHeader, Malformed}
 use Rattle.text.specs.Lines.{Headless}
 use Rattle.rules.specs.Spelling.{header}
-use Rattle.rules.specs.Reading.{Gives, too_long, unmarked, unended, marked}
+use Rattle.rules.specs.Reading.{Gives, unmarked, unended, marked}
 use Rattle.graph.specs.declared.faults.GraphFault.{GraphFault}
-use Rattle.graph.specs.declared.faults.GraphFault.TheVariants.{Text}
 use Rattle.graph.specs.declared.read_sheet.ReadSheet.{ReadSheet}
-use Rattle.graph.specs.Readings.{reported_text, reported, LinesAs, TextAs, ReadAs, Empty}
+use Rattle.graph.specs.Readings.{reported_text, LinesAs, TextAs, ReadAs, Empty}
 
 -- what stands behind the header gives what the text gives
 pub behind_header : (text lines : List ℕ) (after : ReadSheet) (r : Result Unit GraphFault) → length text ≤ 65536 → text ≡ header ++ (10 ∷ lines) → LinesAs lines after r → TextAs text after r

@@ -1,5 +1,5 @@
 -- What tables and lists of a sheet that is held say of it.
-use Rattle.std.proofs.Common.{◌≡◌, ℕ, zero, ◌<◌, Bool, true, false, List, length, Some, None, sym, refl, ap, ◌∙◌, subst, arith}
+use Rattle.std.proofs.Common.{◌≡◌, ℕ, Bool, true, false, List, Some, sym, refl, ap, ◌∙◌, subst, arith}
 use Rattle.rules.specs.declared.memory.Object.{Object}
 use Rattle.rules.specs.declared.sheet.Layer.{Layer}
 use Rattle.rules.specs.declared.sheet.Actor.{Actor}

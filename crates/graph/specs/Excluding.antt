@@ -1,5 +1,5 @@
 -- Exclusion, worked out from rows of the order, and kept in rows.
-use Rattle.std.specs.Prelude.{◌≡◌, ℕ, Bool, false, not, ◌&&◌, ◌||◌, List, length, ◌==◌, nat_lt, slice_index_or}
+use Rattle.std.specs.Prelude.{ℕ, Bool, false, not, ◌&&◌, ◌||◌, List, length, ◌==◌, nat_lt, slice_index_or}
 use Rattle.rules.specs.declared.memory.Object.{Object}
 use Rattle.graph.specs.Rows.{before}
 

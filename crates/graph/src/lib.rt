@@ -1,4 +1,5 @@
 // A sheet's actors, objects, order and exclusions, and the reader that builds them.
+#![tactic(auto)]
 
 pub mod exclusions;
 pub mod faults;

@@ -1,5 +1,6 @@
 // `lampbatch`: many sheets on standard input, what `lampmap` prints of each on standard output.
 // A sheet comes as its length in decimal digits, byte 10, and its bytes; each answer ends with a line `.`.
+#![tactic(auto)]
 
 use layout::turns::Candidate;
 use planner::map::MOST_MAP;

@@ -1,4 +1,5 @@
 // `lampmap`: a sheet on standard input, its map or its fault on standard output.
+#![tactic(auto)]
 
 use anyhow::anyhow;
 use layout::turns::Candidate;

@@ -1,6 +1,6 @@
 -- What a fit rule's answer says of the place.
 
-use Rattle.std.proofs.Common.{◌≡◌, ℕ, ◌+◌, ◌-◌, ◌<◌, ◌≤◌, ◌⊎◌, List, [], ◌∷◌, Some, None, Option, sym, subst, inl, inr, arith}
+use Rattle.std.proofs.Common.{◌≡◌, ℕ, ◌+◌, ◌≤◌, List, [], ◌∷◌, Some, sym, subst, inl, inr, arith}
 use Rattle.rules.specs.declared.memory.Stretch.{Stretch}
 use Rattle.rules.specs.Stretches.{All, Any}
 use Rattle.rules.specs.Fitting.{Rule, IsFitRule, Proper, Answers, Holds, answer_from}

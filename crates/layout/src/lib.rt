@@ -1,4 +1,5 @@
 // Placing the objects of a plan in the banks of a fabric.
+#![tactic(auto)]
 
 pub mod asking;
 pub mod bank;

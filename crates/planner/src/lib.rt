@@ -1,4 +1,5 @@
 // Plans: a sheet read, placed and printed.
+#![tactic(auto)]
 
 pub mod faults;
 pub mod map;

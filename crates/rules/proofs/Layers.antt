@@ -1,9 +1,9 @@
 -- First fit, best fit and the layers are fit rules.
-use Rattle.std.proofs.Common.{◌≡◌, ℕ, suc, ◌+◌, ◌<◌, ◌≤◌, Bool, true, false, cond, ◌⊎◌, List, [], ◌∷◌, length, Some, None, filter, Option, sym, refl, ap, ◌∙◌, inl, inr, arith}
+use Rattle.std.proofs.Common.{◌≡◌, ℕ, suc, ◌≤◌, Bool, true, false, cond, List, [], ◌∷◌, length, Some, None, filter, Option, arith}
 use Rattle.std.specs.Option.{option_or}
 use Rattle.rules.specs.declared.memory.Stretch.{Stretch}
-use Rattle.rules.specs.Stretches.{All, Any, ◌∈◌}
-use Rattle.rules.specs.Fitting.{Rule, Proper, Holds, Answers, Takes, IsFitRule, IsFirstFit, IsBestFit, Lower, Tighter, answer_from, asks_first, ascend_from, ends_below, is_snug}
+use Rattle.rules.specs.Stretches.{All}
+use Rattle.rules.specs.Fitting.{Rule, Proper, Holds, Answers, Takes, IsFitRule, IsFirstFit, IsBestFit, Lower, Tighter, answer_from, asks_first, ends_below, is_snug}
 use Rattle.rules.specs.PlacingLaws.{LayersAreFitRules}
 use Rattle.rules.proofs.Members.{any_weaker, any_kept}
 use Rattle.rules.proofs.Questions.{ascend_from_proper, kept_ascend, range_from_test, ascending_from_test}

@@ -1,5 +1,5 @@
 -- Some one of a list.
-use Rattle.std.proofs.Common.{◌≡◌, Bool, true, false, cond, ◌⊎◌, List, [], ◌∷◌, filter, sym, refl, subst, inl, inr, ⊎_elim}
+use Rattle.std.proofs.Common.{Bool, true, false, cond, ◌⊎◌, List, [], ◌∷◌, filter, sym, subst, inl, inr}
 use Rattle.rules.specs.Stretches.{All, Any, ◌∈◌}
 
 pub any_weaker : {X : Type 0} (P Q : X → Type 0) → ((x : X) → P x → Q x) → (xs : List X) → Any P xs → Any Q xs

@@ -1,5 +1,5 @@
 -- A sheet as it grows line by line, and which entries may come next.
-use Rattle.std.specs.Prelude.{◌≡◌, ℕ, ◌+◌, ◌^◌, ◌≤◌, List, [], ◌∷◌, ◌++◌, length, ◌≢◌}
+use Rattle.std.specs.Prelude.{◌≡◌, ℕ, ◌+◌, ◌≤◌, List, [], ◌∷◌, ◌++◌, length, ◌≢◌}
 use Rattle.rules.specs.declared.sheet.Kind.{Kind}
 use Rattle.rules.specs.declared.sheet.Kind.TheVariants.{Unified, Private, Hybrid}
 use Rattle.rules.specs.declared.sheet.Machine.{Machine}
@@ -12,7 +12,7 @@ use Rattle.rules.specs.declared.sheet.Link.{Link}
 use Rattle.rules.specs.declared.sheet.Link.TheVariants.{Plain, Delayed, Ordered}
 use Rattle.rules.specs.declared.sheet.Entry.{Entry}
 use Rattle.rules.specs.declared.sheet.Entry.TheVariants.{OnMachine, ByFit, WithLayer, NextActor, NextLink}
-use Rattle.rules.specs.Lists.{◌∈◌, Lowest}
+use Rattle.rules.specs.Lists.{◌∈◌}
 use Rattle.rules.specs.Fitting.{OnTheTable}
 use Rattle.rules.specs.Order.{Linked, edges}
 use Rattle.rules.specs.Sheets.{Sheet, core_in}

@@ -1,5 +1,5 @@
 -- The banks of a sheet on a fabric, and where all of its objects lie.
-use Rattle.std.specs.Prelude.{◌≡◌, ℕ, ◌+◌, ◌^◌, ◌<◌, ◌≤◌, Bool, true, false, ◌&&◌, List, Some, None, filter, Option, nat_lt}
+use Rattle.std.specs.Prelude.{◌≡◌, ℕ, ◌+◌, ◌^◌, ◌<◌, ◌≤◌, Bool, true, false, ◌&&◌, Some, None, filter, nat_lt}
 use Rattle.rules.specs.Lists.{All, numbers_from}
 use Rattle.rules.specs.Stretches.{OnGrain}
 use Rattle.rules.specs.Fitting.{Rule, OnTheTable}

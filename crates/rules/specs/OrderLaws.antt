@@ -1,8 +1,8 @@
 -- The laws of order.
-use Rattle.std.specs.Prelude.{◌≡◌, ℕ, ◌<◌, ◌≢◌, ◌⊎◌, ◌↔◌, List, [], ◌∷◌, ◌++◌}
+use Rattle.std.specs.Prelude.{ℕ, ◌<◌, ◌≢◌, ◌⊎◌, ◌↔◌, List, [], ◌∷◌, ◌++◌}
 use Rattle.rules.specs.declared.sheet.Link.{Link}
 use Rattle.rules.specs.Sheets.{Sheet, actor_count}
-use Rattle.rules.specs.Order.{Linked, UpTo, edges, Before, Ends, OrderedSheet}
+use Rattle.rules.specs.Order.{Linked, UpTo, Before, Ends, OrderedSheet}
 use Rattle.rules.specs.Drafts.{Orders, from, to}
 use Rattle.rules.specs.Objects.{object_count}
 use Rattle.rules.specs.Exclusion.{Apart, Excludes}

@@ -1,5 +1,5 @@
 -- The laws of gaps, fit rules, fabrics and placing.
-use Rattle.std.specs.Prelude.{◌≡◌, ℕ, ◌+◌, ◌^◌, ◌<◌, ◌≤◌, ◌⊎◌, ◌↔◌, List, Option}
+use Rattle.std.specs.Prelude.{◌≡◌, ℕ, ◌^◌, ◌<◌, ◌≤◌, ◌⊎◌, ◌↔◌, List, Option}
 use Rattle.rules.specs.declared.memory.Stretch.{Stretch}
 use Rattle.rules.specs.declared.sheet.Machine.{Machine}
 use Rattle.rules.specs.Lists.{◌∈◌, All, total}
@@ -8,7 +8,7 @@ use Rattle.rules.specs.Fitting.{Rule, IsFitRule, Proper, IsFirstFit, IsBestFit, 
 use Rattle.rules.specs.Fabrics.{Meaning, fabric_of}
 use Rattle.rules.specs.Sheets.{Sheet}
 use Rattle.rules.specs.Objects.{size}
-use Rattle.rules.specs.Placing.{Bank, Places, Taken, Footprint, EachExcludesTheRest}
+use Rattle.rules.specs.Placing.{Places, Taken, Footprint, EachExcludesTheRest}
 use Rattle.rules.specs.Layouts.{Lawful, Placeable, bank_of, Layout, LaidOut, NoRoom, SoundLayout}
 
 -- every list of blocked stretches leaves gaps, and one list of them

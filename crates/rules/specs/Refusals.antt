@@ -1,9 +1,9 @@
 -- The table of refusals: what a fault reports, and what is printed of a text.
-use Rattle.std.specs.Prelude.{◌≡◌, ℕ, cond, List, [], ◌∷◌, ◌++◌, Some, None, codes, decimal, Option, nat_le}
+use Rattle.std.specs.Prelude.{◌≡◌, ℕ, cond, List, [], ◌∷◌, ◌++◌, Some, None, codes, Option, nat_le}
 use Rattle.rules.specs.declared.sheet.Fit.{Fit}
 use Rattle.rules.specs.declared.sheet.Fit.TheVariants.{First, Best}
 use Rattle.rules.specs.Fitting.{Rule, IsFirstFit, IsBestFit, layered}
-use Rattle.rules.specs.Fabrics.{Meaning, fabric_of}
+use Rattle.rules.specs.Fabrics.{fabric_of}
 use Rattle.rules.specs.Sheets.{Sheet}
 use Rattle.rules.specs.Layouts.{NoRoom}
 use Rattle.rules.specs.Maps.{MapOf}

@@ -1,6 +1,6 @@
 -- The laws of runs.
 use Rattle.std.specs.Prelude.{◌≡◌, ℕ, ◌<◌, ◌≢◌, ◌⊎◌, ◌↔◌, List, [], ◌∷◌, length}
-use Rattle.rules.specs.Lists.{◌∈◌, All}
+use Rattle.rules.specs.Lists.{All}
 use Rattle.rules.specs.Sheets.{Sheet, actor_count}
 use Rattle.rules.specs.Order.{OrderedSheet}
 use Rattle.rules.specs.Objects.{object_count}

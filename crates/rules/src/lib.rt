@@ -1,4 +1,5 @@
 // The plain data of the subject, of which every contract speaks, and the laws of the rules.
+#![tactic(auto)]
 
 pub mod examples;
 pub mod lean_laws;

@@ -1,12 +1,12 @@
 -- How many bytes a line takes at least.
-use Rattle.std.proofs.Common.{◌≡◌, ℕ, ◌+◌, ◌-◌, ◌*◌, ◌<◌, ◌≤◌, Bool, true, false, cond, ◌&&◌, eqb, leb, List, [], ◌∷◌, ◌++◌, length, get_or, drop, Some, None, Option, sym, refl, ap, ◌∙◌, subst, arith, length-append, length-drop, rules}
+use Rattle.std.proofs.Common.{◌≡◌, ℕ, ◌+◌, ◌-◌, ◌*◌, ◌<◌, ◌≤◌, Bool, true, false, cond, ◌&&◌, eqb, leb, List, [], ◌∷◌, length, get_or, Some, None, Option, refl, ap, ◌∙◌, subst, arith, length-append, rules}
 use Rattle.std.specs.Option.{option_map}
 use Rattle.rules.specs.declared.sheet.Kind.{Kind}
 use Rattle.rules.specs.declared.sheet.Entry.{Entry}
 use Rattle.rules.specs.declared.sheet.Entry.TheVariants.{OnMachine, ByFit, WithLayer, NextActor, NextLink}
 use Rattle.text.specs.Bounds.{link_count}
 use Rattle.rules.specs.Numerals.{digits_on, number_on, field_on}
-use Rattle.rules.specs.Fields.{kind_on, with_kind, with_field, ending, fit_of, machine_of, fit_line_of, lone_of, low_of, snug_of, actor_of, fifo_of, plain_of, delayed_of, sequence_of, fields_of, entry_of}
+use Rattle.rules.specs.Fields.{kind_on, with_kind, with_field, ending, fit_of, lone_of, fifo_of, fields_of, entry_of}
 use Rattle.rules.specs.Reading.{Goes}
 use Rattle.rules.specs.Spelling.{spell}
 use Rattle.rules.proofs.Cuts.{goes_cut}

@@ -1,4 +1,5 @@
 // The bytes of a sheet: its lines, and what one line says.
+#![tactic(auto)]
 
 pub mod entries;
 pub mod faults;

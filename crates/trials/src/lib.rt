@@ -1,4 +1,5 @@
 // Worked sheets, and what is printed for them.
+#![tactic(auto)]
 
 #[cfg(test)]
 mod faults;

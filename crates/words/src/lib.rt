@@ -1,4 +1,6 @@
 // Sets of numbers below 64, each a word.
+#![tactic(auto)]
+
 ghost use Rattle.std.specs.Prelude.{◌≡◌, ℕ, ◌-◌, ◌^◌, ◌<◌, ◌≤◌, false, not, ◌&&◌, ◌||◌, ltb, if◌then◌else◌, MatchOption, ◌==◌, bit_and, bit_or, count_ones, nat_lt};
 ghost use Rattle.words.specs.Words.{Lowest, bit};
 

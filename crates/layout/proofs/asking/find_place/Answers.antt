@@ -1,6 +1,5 @@
-use Rattle.std.proofs.Common.{◌≡◌, ◌+◌, ◌-◌, ◌<◌, ◌≤◌, true, length, take, sym, ◌∙◌, arith, rules}
-use Rattle.std.proofs.lemmas.List.{length-take-le}
-use Rattle.rules.specs.Fitting.{Proper, ascend_from}
+use Rattle.std.proofs.Common.{◌≡◌, ◌-◌, ◌≤◌, true, length, take, sym, ◌∙◌, arith, rules}
+use Rattle.rules.specs.Fitting.{ascend_from}
 use Rattle.rules.specs.Stretches.{All}
 use Rattle.rules.proofs.Questions.{proper_from_tests}
 use Rattle.layout.proofs.Asked.{place_within}

@@ -1,4 +1,4 @@
-use Rattle.std.proofs.Common.{◌<◌, ◌≤◌, take, arith, rules}
+use Rattle.std.proofs.Common.{◌<◌, take, arith}
 use Rattle.std.proofs.ByRecursion.{All-get_or}
 use Rattle.rules.specs.declared.memory.Stretch.{Stretch}
 use Rattle.layout.proofs.Ascents.{found_skip, found_write}

@@ -1,5 +1,5 @@
 use Rattle.std.proofs.Common.{◌≡◌, ℕ, ◌+◌, ◌-◌, ◌/◌, ◌%◌, ◌<◌, ◌≤◌, List, [], ◌∷◌, ◌++◌, length, drop, set, decimal, sym, ap, ◌∙◌, arith, rules}
-use Rattle.std.proofs.lemmas.List.{drop-set, drop_all, append-nil, append_assoc, length-set, length_push}
+use Rattle.std.proofs.lemmas.List.{drop-set, drop_all, append-nil, append_assoc, length_push}
 use Rattle.std.proofs.lemmas.Fmt.{decimal_step, decimal_digit, length-decimal-le, decimal_nonempty}
 use Rattle.planner.proofs.output.spell.Goals as goal
 

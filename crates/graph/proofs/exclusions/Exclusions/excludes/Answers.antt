@@ -1,4 +1,4 @@
-use Rattle.std.proofs.Common.{◌≡◌, ◌<◌, ◌≤◌, length, vec_items, sym, ◌∙◌, arith, rules}
+use Rattle.std.proofs.Common.{◌<◌, ◌≤◌, length, vec_items, sym, ◌∙◌, arith, rules}
 use Rattle.graph.proofs.Kept.{row_read, row_past}
 use Rattle.graph.proofs.exclusions.Exclusions.excludes.Goals as goal
 

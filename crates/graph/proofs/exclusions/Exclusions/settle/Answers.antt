@@ -1,4 +1,4 @@
-use Rattle.std.proofs.Common.{◌≡◌, ℕ, ◌+◌, ◌<◌, ◌≤◌, List, length, vec_items, sym, ap, ◌∙◌, subst, arith, rules}
+use Rattle.std.proofs.Common.{◌≡◌, ℕ, List, length, vec_items, sym, ap, ◌∙◌, subst, arith}
 use Rattle.rules.specs.declared.memory.Object.{Object}
 use Rattle.graph.specs.RowBits.{row_bit}
 use Rattle.graph.specs.Excluding.{excluding}

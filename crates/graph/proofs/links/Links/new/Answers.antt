@@ -1,4 +1,4 @@
-use Rattle.std.proofs.Common.{◌≡◌, [], sym, ap, subst, rules}
+use Rattle.std.proofs.Common.{sym, ap, subst, rules}
 use Rattle.rules.specs.Drafts.{fifo_count}
 use Rattle.graph.specs.Orders.{Heard, Meant}
 use Rattle.graph.proofs.Ties.{heard_none, meant_none}

@@ -1,4 +1,4 @@
-use Rattle.std.proofs.Common.{◌≡◌, vec_items, sym, ap, ◌∙◌, subst, arith, rules}
+use Rattle.std.proofs.Common.{vec_items, sym, ap, ◌∙◌, subst, arith, rules}
 use Rattle.rules.specs.Drafts.{fifo_count}
 use Rattle.rules.specs.declared.sheet.Link.TheVariants.{Delayed}
 use Rattle.graph.specs.Orders.{Heard, Meant}

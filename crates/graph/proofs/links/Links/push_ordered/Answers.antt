@@ -1,4 +1,4 @@
-use Rattle.std.proofs.Common.{◌≡◌, vec_items, sym, ap, ◌∙◌, subst, arith, rules}
+use Rattle.std.proofs.Common.{vec_items, sym, ap, ◌∙◌, subst, arith, rules}
 use Rattle.rules.specs.Drafts.{fifo_count, by_sequence}
 use Rattle.rules.specs.declared.sheet.Link.TheVariants.{Ordered}
 use Rattle.graph.specs.Orders.{Heard, Meant}

@@ -1,4 +1,4 @@
-use Rattle.std.proofs.Common.{◌≡◌, false, ltb, sym, ◌∙◌, arith, rules}
+use Rattle.std.proofs.Common.{arith, rules}
 use Rattle.graph.proofs.Tables.{past_rows}
 use Rattle.graph.proofs.order.Order.before.Goals as goal
 

@@ -1,5 +1,4 @@
-use Rattle.std.proofs.Common.{◌≡◌, refl, rules}
-use Rattle.graph.proofs.Relations.{test_from_through}
+use Rattle.std.proofs.Common.{refl}
 use Rattle.graph.proofs.Tables.{no_rows}
 use Rattle.graph.proofs.order.Order.none.Goals as goal
 

@@ -1,4 +1,4 @@
-use Rattle.std.proofs.Common.{◌≡◌, ◌<◌, eqb, length, vec_items, ap, ◌∙◌, arith}
+use Rattle.std.proofs.Common.{◌<◌, eqb, length, vec_items, ap, ◌∙◌, arith}
 use Rattle.rules.specs.Sheets.{core_in}
 use Rattle.graph.proofs.Drafted.{core_read}
 use Rattle.graph.proofs.read_sheet.ReadSheet.on_one_core.Goals as goal

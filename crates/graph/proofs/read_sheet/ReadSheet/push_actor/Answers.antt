@@ -1,4 +1,4 @@
-use Rattle.std.proofs.Common.{◌≡◌, ℕ, ◌+◌, ◌≤◌, Bool, true, false, vec_items, sym, ap, ◌∙◌, arith, rules}
+use Rattle.std.proofs.Common.{◌≡◌, ℕ, Bool, true, false, vec_items, sym, ◌∙◌, arith, rules}
 use Rattle.graph.specs.Stages.{is_ruled}
 use Rattle.graph.proofs.Nils.{nil}
 use Rattle.graph.proofs.Listed.{area_pushed, area_none}

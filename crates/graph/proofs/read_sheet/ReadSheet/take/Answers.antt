@@ -1,4 +1,4 @@
-use Rattle.std.proofs.Common.{◌≡◌, ◌+◌, ◌≤◌, vec_len, sym, ap, subst, arith}
+use Rattle.std.proofs.Common.{sym, ap, subst, arith}
 use Rattle.rules.specs.declared.sheet.Entry.{Entry}
 use Rattle.text.specs.Bounds.{link_count}
 use Rattle.graph.specs.Taking.{Took, draft_of}

@@ -1,4 +1,4 @@
-use Rattle.std.proofs.Common.{◌≡◌, vec_items, sym, ap, ◌∙◌, arith, rules}
+use Rattle.std.proofs.Common.{vec_items, rules}
 use Rattle.rules.specs.declared.sheet.Link.TheVariants.{Delayed}
 use Rattle.graph.proofs.Listed.{buffer_pushed}
 use Rattle.graph.proofs.read_sheet.ReadSheet.take_delayed.Goals as goal

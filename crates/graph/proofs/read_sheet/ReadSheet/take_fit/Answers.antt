@@ -1,4 +1,4 @@
-use Rattle.std.proofs.Common.{◌≡◌, [], length, vec_items, vec_len, sym, ap, ◌∙◌, rules}
+use Rattle.std.proofs.Common.{vec_items, sym, ap, ◌∙◌, rules}
 use Rattle.graph.specs.Stages.{is_ruled}
 use Rattle.graph.proofs.Nils.{nil}
 use Rattle.graph.proofs.read_sheet.ReadSheet.take_fit.Goals as goal

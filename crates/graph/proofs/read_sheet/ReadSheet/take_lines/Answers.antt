@@ -1,9 +1,9 @@
-use Rattle.std.proofs.Common.{◌≡◌, ℕ, ◌+◌, ◌<◌, List, [], length, Some, vec_len, sym, ap, ◌∙◌, subst, arith, rules}
+use Rattle.std.proofs.Common.{◌≡◌, ℕ, ◌+◌, ◌<◌, List, [], length, Some, vec_len, ap, subst, arith, rules}
 use Rattle.std.proofs.lemmas.Result.{err_from_is_err_and}
 use Rattle.rules.specs.Drafts.{Draft}
 use Rattle.rules.specs.Reading.{fault, Reads, whole, missing, badly, refused, taken}
 use Rattle.text.proofs.Lengths.{goes_spends}
-use Rattle.graph.specs.Taking.{draft_of, refusal_number}
+use Rattle.graph.specs.Taking.{refusal_number}
 use Rattle.graph.proofs.Nils.{nil}
 use Rattle.graph.proofs.Endings.{incomplete, complete}
 use Rattle.graph.proofs.read_sheet.ReadSheet.take_lines.Goals as goal

@@ -1,4 +1,4 @@
-use Rattle.std.proofs.Common.{◌≡◌, sym, subst}
+use Rattle.std.proofs.Common.{sym, subst}
 use Rattle.rules.specs.declared.sheet.Link.{Link}
 use Rattle.rules.specs.declared.sheet.Entry.TheVariants.{NextLink}
 use Rattle.graph.specs.Taking.{Took, draft_of}

@@ -1,4 +1,4 @@
-use Rattle.std.proofs.Common.{◌≡◌, ap, rules}
+use Rattle.std.proofs.Common.{ap, rules}
 use Rattle.graph.specs.Stages.{is_ruled}
 use Rattle.graph.proofs.read_sheet.ReadSheet.take_machine.Goals as goal
 

@@ -1,4 +1,4 @@
-use Rattle.std.proofs.Common.{◌≡◌, not, eqb, None, vec_items, vec_len, sym, ap, ◌∙◌, arith, rules}
+use Rattle.std.proofs.Common.{not, eqb, None, vec_items, vec_len, arith, rules}
 use Rattle.rules.specs.declared.sheet.Link.TheVariants.{Plain}
 use Rattle.std.proofs.lemmas.Result.{err_from_is_err_and}
 use Rattle.graph.specs.declared.faults.Refusal.TheVariants.{EqualEnds, Backward}

@@ -1,4 +1,4 @@
-use Rattle.std.proofs.Common.{vec_items, arith, rules}
+use Rattle.std.proofs.Common.{vec_items, rules}
 use Rattle.graph.proofs.Listed.{ordering_pushed}
 use Rattle.graph.proofs.read_sheet.ReadSheet.take_sequence.Goals as goal
 

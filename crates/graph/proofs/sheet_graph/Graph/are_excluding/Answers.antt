@@ -1,4 +1,4 @@
-use Rattle.std.proofs.Common.{◌≡◌, ℕ, ◌<◌, Bool, false, List, length, get_or, Some, vec_items, sym, ap, ◌∙◌, subst, arith}
+use Rattle.std.proofs.Common.{◌≡◌, ◌<◌, Bool, List, length, Some, vec_items, sym, ap, ◌∙◌, subst, arith}
 use Rattle.rules.specs.declared.memory.Object.{Object}
 use Rattle.rules.specs.Objects.{objects, object_count}
 use Rattle.rules.specs.Exclusion.{Excludes}

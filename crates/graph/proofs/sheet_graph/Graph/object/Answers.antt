@@ -1,7 +1,7 @@
-use Rattle.std.proofs.Common.{◌≡◌, ℕ, ◌<◌, Bool, false, List, length, get_or, Some, vec_items, sym, ap, ◌∙◌, subst, arith}
+use Rattle.std.proofs.Common.{◌≡◌, ◌<◌, false, List, length, get_or, vec_items, ap, ◌∙◌, arith}
 use Rattle.std.proofs.lemmas.List.{get_or_default}
 use Rattle.rules.specs.declared.memory.Object.{Object}
-use Rattle.rules.specs.Objects.{objects, object, object_count}
+use Rattle.rules.specs.Objects.{objects, object_count}
 use Rattle.graph.proofs.Told.{objects_held}
 use Rattle.graph.proofs.sheet_graph.Graph.object.Goals as goal
 
