@@ -109,6 +109,7 @@ def turn(text, turned, quiet):
     """The text with each of the names turned, but for those that it imports from the kit."""
     kits = {name for it in IMPORT.findall(text) for name in TOKEN.findall(it)}
     turned = {old: new for old, new in turned.items() if old not in kits}
+    turned |= {old: new for old, new in KITS_WORDS.items() if re.search(rf"\buse Rattle\.(?!std\b)[^{{;\n]*\{{[^}}]*\b{old}\b[ ,}}]", text) or f" as {old}}}" in text}
     out, at = [], 0
     for m in quiet.finditer(text):
         out.append(TOKEN.sub(lambda t: turned.get(t.group(0), t.group(0)), text[at : m.start()]))
@@ -160,6 +161,8 @@ GIVEN = {
     "bit-and": "bit_of_and",
     "getD-numbers": "get_or_numbers",
 }
+# the kit's words that the repository gave to something else
+KITS_WORDS = {"All": "Every"}
 
 if __name__ == "__main__":
     sys.exit(main())

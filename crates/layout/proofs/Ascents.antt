@@ -5,10 +5,10 @@ use Rattle.std.proofs.lemmas.List.{take_more_set}
 use Rattle.std.proofs.ByRecursion.{All-push, All-weaker}
 use Rattle.rules.specs.declared.memory.Stretch.{Stretch}
 use Rattle.rules.specs.Fitting.{ascend_from}
-use Rattle.rules.specs.Stretches.{All}
+use Rattle.rules.specs.Stretches.{Every}
 
 -- one gap behind gaps that end before it
-ascend_push : (low : ℕ) (gs : List Stretch) (g : Stretch) → ascend_from low gs ≡ true → All (λ h. h.end ≤ g.start) gs → low ≤ g.start → g.start < g.end → g.end ≤ 4294967295
+ascend_push : (low : ℕ) (gs : List Stretch) (g : Stretch) → ascend_from low gs ≡ true → Every (λ h. h.end ≤ g.start) gs → low ≤ g.start → g.start < g.end → g.end ≤ 4294967295
     → ascend_from low (gs ++ g ∷ []) ≡ true
 ascend_push low [] g up all l f w = search rules
 ascend_push low (h ∷ hs) g up all l f w =
@@ -17,8 +17,8 @@ ascend_push low (h ∷ hs) g up all l f w =
 -- the gaps found so far ascend, end at or below the capacity, and end at or below `free`
 pub record Found (capacity free : ℕ) (gs : List Stretch) : Type 0 where
   pub ascending : ascend_from 0 gs ≡ true
-  pub within : All (λ g. g.end ≤ capacity) gs
-  pub behind : All (λ g. g.end ≤ free) gs
+  pub within : Every (λ g. g.end ≤ capacity) gs
+  pub behind : Every (λ g. g.end ≤ free) gs
 
 pub found_none : (capacity : ℕ) → Found capacity 0 []
 found_none capacity = record { ascending = refl; within = tt; behind = tt }

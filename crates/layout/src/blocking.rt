@@ -1,7 +1,7 @@
 // What stands in an object's way.
 
 ghost use Rattle.std.specs.Prelude.{◌<◌, ◌≤◌, length, take};
-ghost use Rattle.rules.specs.Stretches.{All};
+ghost use Rattle.rules.specs.Stretches.{Every};
 
 use crate::items::Item;
 use graph::object_set::ObjectSet;
@@ -16,7 +16,7 @@ pub(crate) fn blockers<W: ObjectSet>(
 ) -> usize
     requires room { length items.now ≤ length out.old }
     ensures count { result ≤ length items.now }
-    ensures filled { All (λ s. s.start < s.end) (take result out.new) }
+    ensures filled { Every (λ s. s.start < s.end) (take result out.new) }
 {
     let mut n = 0;
     for item in items {

@@ -3,7 +3,7 @@ use Rattle.std.proofs.Common.{◌≡◌, ℕ, suc, ◌+◌, ◌-◌, ◌<◌, �
 use Rattle.std.proofs.ByRecursion.{All-weaker}
 use Rattle.std.proofs.lemmas.Bool.{cases_lt}
 use Rattle.rules.specs.declared.memory.Stretch.{Stretch}
-use Rattle.rules.specs.Lists.{◌∈◌, All, total}
+use Rattle.rules.specs.Lists.{◌∈◌, Every, total}
 use Rattle.rules.specs.Stretches.{Spaced, Gaps, Covers}
 use Rattle.rules.specs.Fitting.{Ascending, OnTheTable, Proper}
 use Rattle.rules.specs.Placing.{Bank, SoundBank, Places, Earlier, Taken}
@@ -84,7 +84,7 @@ module _ (bank : Bank) (places : Places) (x : ℕ) where
 
   module _ (gs : List Stretch) (G : Gaps bank.capacity (Taken bank places x) gs) where
     -- each gap that starts above 0 takes one such object
-    few_above : (n : ℕ) (hs : List Stretch) → Spaced hs → ((h : Stretch) → h ∈ hs → h ∈ gs) → All (λ h. n < h.start) hs → length hs ≤ count (suc n)
+    few_above : (n : ℕ) (hs : List Stretch) → Spaced hs → ((h : Stretch) → h ∈ hs → h ∈ gs) → Every (λ h. n < h.start) hs → length hs ≤ count (suc n)
     few_above n [] s sub from = omega arith
     few_above n (h ∷ hs) s sub from =
         let i = sub h (inl refl) in

@@ -1,7 +1,7 @@
 -- Tests over lists and over the numbers below a bound, and what they say.
 use Rattle.std.proofs.Common.{◌≡◌, ℕ, zero, suc, ◌<◌, Bool, true, false, not, ◌&&◌, ◌||◌, eqb, List, [], ◌∷◌, sym, refl, ap, ◌∙◌, subst, inl, inr, ⊎_elim, arith}
 use Rattle.std.proofs.lemmas.Bool.{and_parts, or_cases, or_left, or_right, eqb-true, true≢false, cases_eq}
-use Rattle.rules.specs.Lists.{◌∈◌, All}
+use Rattle.rules.specs.Lists.{◌∈◌, Every}
 use Rattle.rules.proofs.Deciding.{Decided}
 
 -- whether a decision says that it holds
@@ -100,7 +100,7 @@ unfolding is_among
 is_among_so a xs t = let r = any_of_so (eqb a) xs t in subst (λ b. b ∈ xs) (sym (eqb-true a r.0 r.2)) r.1
 
 -- where every one passes and what passes has P, all have P
-pub all_of_all : {X : Type 0} (P : X → Type 0) (f : X → Bool) → ((x : X) → f x ≡ true → P x) → (xs : List X) → all_of f xs ≡ true → All P xs
+pub all_of_all : {X : Type 0} (P : X → Type 0) (f : X → Bool) → ((x : X) → f x ≡ true → P x) → (xs : List X) → all_of f xs ≡ true → Every P xs
 unfolding all_of
 all_of_all P f each [] t = tt
 all_of_all P f each (x ∷ xs) t =

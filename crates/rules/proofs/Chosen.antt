@@ -4,7 +4,7 @@ use Rattle.std.specs.Option.{option_or}
 use Rattle.std.proofs.ByRecursion.{All-weaker}
 use Rattle.std.proofs.lemmas.Bool.{leb-true, leb-false, le-leb, ltb-true, ltb-false, and_parts, and_cases}
 use Rattle.rules.specs.declared.memory.Stretch.{Stretch}
-use Rattle.rules.specs.Stretches.{All, ◌∈◌}
+use Rattle.rules.specs.Stretches.{Every, ◌∈◌}
 use Rattle.rules.specs.Fitting.{place_in, Holds, answer_from, Ascending, Proper, Takes, Lower, Tighter, width, IsFirstFit, IsBestFit}
 use Rattle.rules.proofs.Members.{any_weaker, any_at}
 use Rattle.rules.proofs.Choosing.{first_of, best_from, taken, best_of}
@@ -15,7 +15,7 @@ fits size grain g = leb (place_in g grain + size) g.end
 
 -- none is empty
 abbrev Filled : List Stretch → Type 0
-Filled gs = All (λ g. g.start < g.end) gs
+Filled gs = Every (λ g. g.start < g.end) gs
 
 module _ (size grain : ℕ) where
   -- ---- first fit
@@ -25,11 +25,11 @@ module _ (size grain : ℕ) where
   pass g gs n None t = (n, t)
   pass g gs n (Some a) t =
       inr (any_weaker
-      (λ f. Holds f size grain × (a ≡ answer_from f size grain) × All (λ h. Holds h size grain → Lower f h) gs)
-      (λ f. Holds f size grain × (a ≡ answer_from f size grain) × All (λ h. Holds h size grain → Lower f h) (g ∷ gs))
+      (λ f. Holds f size grain × (a ≡ answer_from f size grain) × Every (λ h. Holds h size grain → Lower f h) gs)
+      (λ f. Holds f size grain × (a ≡ answer_from f size grain) × Every (λ h. Holds h size grain → Lower f h) (g ∷ gs))
       (λ f p. (p.0, p.1, (λ h. absurd (n h), p.2))) gs t)
 
-  first_step : (g : Stretch) (gs : List Stretch) → g.start < g.end → All (λ h. g.end ≤ h.start) gs →
+  first_step : (g : Stretch) (gs : List Stretch) → g.start < g.end → Every (λ h. g.end ≤ h.start) gs →
       (rest : Option (ℕ × ℕ)) → Takes Lower gs size grain rest → (b : Bool) → fits size grain g ≡ b →
       Takes Lower (g ∷ gs) size grain (option_or (cond b (Some (answer_from g size grain)) None) rest)
   first_step g gs filled above rest t true e =
@@ -54,7 +54,7 @@ module _ (size grain : ℕ) where
     pub holds : Holds x size grain
     pub one_of : (x ≡ b) ⊎ (x ∈ gs)
     pub before : Tighter x b
-    pub among : All (λ h. Holds h size grain → Tighter x h) gs
+    pub among : Every (λ h. Holds h size grain → Tighter x h) gs
 
   through : (x g b : Stretch) → Tighter x g → width g < width b → Tighter x b
   through x g b (inl l) k = inl (omega arith)
@@ -69,7 +69,7 @@ module _ (size grain : ℕ) where
       (Holds g size grain → (x : Stretch) × BestOfBoth g gs x) → ((x : Stretch) × BestOfBoth b gs x) →
       (t : Bool) → (fits size grain g && ltb (width g) (width b)) ≡ t →
       (x : Stretch) × (best_from size grain (cond t (Some g) (Some b)) gs ≡ Some x) × Holds x size grain × ((x ≡ b) ⊎ (x ∈ (g ∷ gs))) × Tighter x b
-      × All (λ h. Holds h size grain → Tighter x h) (g ∷ gs)
+      × Every (λ h. Holds h size grain → Tighter x h) (g ∷ gs)
   best_step b g gs s taking keeping true e =
       let parts = and_parts (fits size grain g) (ltb (width g) (width b)) e in
       let it = taking (leb-true (place_in g grain + size) g.end parts.0) in
@@ -90,7 +90,7 @@ module _ (size grain : ℕ) where
       wider h (inl n) = let l = leb-false (place_in g grain + size) g.end n in omega arith
       wider h (inr n) = ltb-false (width g) (width b) n
 
-  best_after : (b : Stretch) (gs : List Stretch) → Holds b size grain → b.start < b.end → All (λ h. b.end ≤ h.start) gs → Filled gs → Ascending gs →
+  best_after : (b : Stretch) (gs : List Stretch) → Holds b size grain → b.start < b.end → Every (λ h. b.end ≤ h.start) gs → Filled gs → Ascending gs →
       (x : Stretch) × BestOfBoth b gs x
   best_after b [] h f above filled up =
       (b, record { found = refl; holds = h; one_of = inl refl; before = inr (refl, omega arith); among = tt })
@@ -105,8 +105,8 @@ module _ (size grain : ℕ) where
   -- none holds the size, or x is the best
   Chosen : List Stretch → Option Stretch → Type 0
   Chosen gs best =
-      ((best ≡ None) × All (λ h. Holds h size grain → ⊥) gs)
-      ⊎ ((x : Stretch) × (best ≡ Some x) × Holds x size grain × (x ∈ gs) × All (λ h. Holds h size grain → Tighter x h) gs)
+      ((best ≡ None) × Every (λ h. Holds h size grain → ⊥) gs)
+      ⊎ ((x : Stretch) × (best ≡ Some x) × Holds x size grain × (x ∈ gs) × Every (λ h. Holds h size grain → Tighter x h) gs)
 
   choose_step : (g : Stretch) (gs : List Stretch) → (Holds g size grain → (x : Stretch) × BestOfBoth g gs x) → Chosen gs (best_from size grain None gs) →
       (t : Bool) → fits size grain g ≡ t → Chosen (g ∷ gs) (best_from size grain (cond t (Some g) None) gs)
@@ -137,7 +137,7 @@ module _ (size grain : ℕ) where
       subst (λ o. Takes Tighter gs size grain (taken size grain o)) (sym r.1)
       (subst (λ b. Takes Tighter gs size grain (cond b (Some (answer_from r.0 size grain)) None)) (sym (le-leb (place_in r.0 grain + size) r.0.end r.2))
       (any_at
-      (λ g. Holds g size grain × (answer_from r.0 size grain ≡ answer_from g size grain) × All (λ h. Holds h size grain → Tighter g h) gs)
+      (λ g. Holds g size grain × (answer_from r.0 size grain ≡ answer_from g size grain) × Every (λ h. Holds h size grain → Tighter g h) gs)
       r.0 gs r.3 (r.2, refl, r.4)))
 
 filled_gaps : (gs : List Stretch) (size grain : ℕ) → Proper gs size grain → Filled gs

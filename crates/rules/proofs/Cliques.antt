@@ -1,7 +1,7 @@
 -- Objects that exclude one another share no byte, so a footprint is at least the sum of their sizes.
 use Rattle.std.proofs.Common.{ℕ, zero, suc, ◌+◌, ◌-◌, ◌<◌, ◌≤◌, min, List, [], ◌∷◌, ⊎_elim, arith}
 use Rattle.std.proofs.lemmas.Bool.{cases_lt}
-use Rattle.rules.specs.Lists.{◌∈◌, All, total}
+use Rattle.rules.specs.Lists.{◌∈◌, Every, total}
 use Rattle.rules.specs.Placing.{Bank, Places, LiesOn, Full, Footprint, EachExcludesTheRest}
 use Rattle.rules.specs.Layouts.{bank_of, ShareNoByte}
 use Rattle.rules.specs.PlacingLaws.{FootprintsHoldEveryClique}
@@ -17,7 +17,7 @@ module _ (bank : Bank) (places : Places) (full : Full bank places) where
   filled f x i = min (f - start x i) (bank.size x)
 
   -- and of the objects of a list
-  abbrev filled_all : ℕ → (xs : List ℕ) → All (λ x. x ∈ bank.objects) xs → ℕ
+  abbrev filled_all : ℕ → (xs : List ℕ) → Every (λ x. x ∈ bank.objects) xs → ℕ
   filled_all f [] is = 0
   filled_all f (x ∷ xs) is = filled f x is.0 + filled_all f xs is.1
 
@@ -26,7 +26,7 @@ module _ (bank : Bank) (places : Places) (full : Full bank places) where
 
   module _ (apart : (x y : ℕ) → bank.Excludes x y → ShareNoByte bank places x y) where
     -- where one object lies, those that it excludes fill no byte
-    none_more : (f x : ℕ) → LiesOn bank places x f → (xs : List ℕ) (is : All (λ y. y ∈ bank.objects) xs) → All (bank.Excludes x) xs →
+    none_more : (f x : ℕ) → LiesOn bank places x f → (xs : List ℕ) (is : Every (λ y. y ∈ bank.objects) xs) → Every (bank.Excludes x) xs →
         filled_all (suc f) xs is ≤ filled_all f xs is
     none_more f x on [] is off = omega arith
     none_more f x on (y ∷ ys) is off =
@@ -40,7 +40,7 @@ module _ (bank : Bank) (places : Places) (full : Full bank places) where
         (cases_lt f (start y is.0))
 
     -- so a byte more fills at most one more
-    one_more : (f : ℕ) (xs : List ℕ) (is : All (λ y. y ∈ bank.objects) xs) → EachExcludesTheRest bank xs →
+    one_more : (f : ℕ) (xs : List ℕ) (is : Every (λ y. y ∈ bank.objects) xs) → EachExcludesTheRest bank xs →
         filled_all (suc f) xs is ≤ filled_all f xs is + 1
     one_more f [] is off = omega arith
     one_more f (x ∷ xs) is off =
@@ -53,17 +53,17 @@ module _ (bank : Bank) (places : Places) (full : Full bank places) where
         (cases_lt f (start x is.0 + bank.size x)))
         (cases_lt f (start x is.0))
 
-    none_below : (xs : List ℕ) (is : All (λ y. y ∈ bank.objects) xs) → filled_all 0 xs is ≤ 0
+    none_below : (xs : List ℕ) (is : Every (λ y. y ∈ bank.objects) xs) → filled_all 0 xs is ≤ 0
     none_below [] is = omega arith
     none_below (x ∷ xs) is = let rest = none_below xs is.1 in omega arith
 
     -- so they fill at most f bytes below f
-    at_most : (f : ℕ) (xs : List ℕ) (is : All (λ y. y ∈ bank.objects) xs) → EachExcludesTheRest bank xs → filled_all f xs is ≤ f
+    at_most : (f : ℕ) (xs : List ℕ) (is : Every (λ y. y ∈ bank.objects) xs) → EachExcludesTheRest bank xs → filled_all f xs is ≤ f
     at_most zero xs is off = none_below xs is
     at_most (suc f) xs is off =
         let rest = at_most f xs is off in let step = one_more f xs is off in omega arith
 
-    all_below : (f : ℕ) → Footprint bank places f → (xs : List ℕ) (is : All (λ y. y ∈ bank.objects) xs) → total bank.size xs ≤ filled_all f xs is
+    all_below : (f : ℕ) → Footprint bank places f → (xs : List ℕ) (is : Every (λ y. y ∈ bank.objects) xs) → total bank.size xs ≤ filled_all f xs is
     all_below f F [] is = omega arith
     all_below f F (x ∷ xs) is =
         let rest = all_below f F xs is.1 in
@@ -71,7 +71,7 @@ module _ (bank : Bank) (places : Places) (full : Full bank places) where
         omega arith
 
     -- the footprint is at least the sizes of objects that exclude one another
-    pub footprint_at_least : (f : ℕ) → Footprint bank places f → (xs : List ℕ) → All (λ y. y ∈ bank.objects) xs → EachExcludesTheRest bank xs →
+    pub footprint_at_least : (f : ℕ) → Footprint bank places f → (xs : List ℕ) → Every (λ y. y ∈ bank.objects) xs → EachExcludesTheRest bank xs →
         total bank.size xs ≤ f
     footprint_at_least f F xs is off =
         let most = at_most f xs is off in let all = all_below f F xs is in omega arith

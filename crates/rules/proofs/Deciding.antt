@@ -2,7 +2,7 @@
 -- The decision of a relation has the relation's name in small letters; all compute.
 use Rattle.std.proofs.Common.{◌≡◌, ℕ, zero, suc, ◌<◌, ◌≤◌, Bool, true, false, ◌⊎◌, List, [], ◌∷◌, sym, refl, subst, inl, inr, arith}
 use native.Mathlib.Decide.{ℕ_discrete, dec_lt}
-use Rattle.rules.specs.Lists.{All, Any, ◌∈◌, Lowest}
+use Rattle.rules.specs.Lists.{Every, Any, ◌∈◌, Lowest}
 
 -- it holds, or it does not
 abbrev pub Decided : Type 0 → Type 0
@@ -84,7 +84,7 @@ any_decided P each [] = inr (λ a. a)
 any_decided P each (x ∷ xs) = either (each x) (λ n. any_decided P each xs)
 
 -- whether P holds of every one of a list
-unfoldable pub all_decided : {X : Type 0} (P : X → Type 0) → ((x : X) → Decided (P x)) → (xs : List X) → Decided (All P xs)
+unfoldable pub all_decided : {X : Type 0} (P : X → Type 0) → ((x : X) → Decided (P x)) → (xs : List X) → Decided (Every P xs)
 unfolding both
 all_decided P each [] = inl tt
 all_decided P each (x ∷ xs) = both (each x) (λ p. all_decided P each xs)

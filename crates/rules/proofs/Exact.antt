@@ -1,7 +1,7 @@
 -- Exclusion is exact: objects that exclude each other can be live together, and the witness shows them so.
 use Rattle.std.proofs.Common.{◌≡◌, ℕ, ◌<◌, Bool, true, false, ◌⊎◌, List, [], ◌∷◌, map, sym, refl, ap, ◌∙◌, subst, subst₂, inl, inr}
 use Rattle.std.proofs.ByRecursion.{All-append}
-use Rattle.rules.specs.Lists.{All, ◌∈◌}
+use Rattle.rules.specs.Lists.{Every, ◌∈◌}
 use Rattle.rules.specs.Sheets.{Sheet}
 use Rattle.rules.specs.Order.{Before, OrderedSheet}
 use Rattle.rules.specs.Objects.{object_count, first, last, always_live}
@@ -19,8 +19,8 @@ use Rattle.rules.proofs.Granting.{grants_lead, grants_join, fresh_fired, firing_
 use Rattle.rules.proofs.Witnesses.{some_witness, same_witness}
 
 -- where each opener has started and only the needed are finished, objects that exclude each other are live
-pub excluding_live : (s : Sheet) → OrderedSheet s → (xs : List ℕ) (st : State) → All (λ x. x < object_count s) xs → Opening s xs [] st →
-    AllExclude s xs → All (Live s st) xs
+pub excluding_live : (s : Sheet) → OrderedSheet s → (xs : List ℕ) (st : State) → Every (λ x. x < object_count s) xs → Opening s xs [] st →
+    AllExclude s xs → Every (Live s st) xs
 excluding_live s sound xs st known o exclude = all_from_members (Live s st) xs live
   where
     within : (x : ℕ) → x ∈ xs → x < object_count s
@@ -47,7 +47,7 @@ excluding_live s sound xs st known o exclude = all_from_members (Live s st) xs l
     live x m = record { known = within x m; lives = lives x m (always_live s x) refl }
 
 -- objects that are live in a reached state exclude each other
-pub live_excluding : (s : Sheet) (cs : List Call) (st : State) → Reached s cs st → (xs : List ℕ) → All (Live s st) xs → AllExclude s xs
+pub live_excluding : (s : Sheet) (cs : List Call) (st : State) → Reached s cs st → (xs : List ℕ) → Every (Live s st) xs → AllExclude s xs
 live_excluding s cs st r xs live x y m n d = live_objects_exclude s cs st r x y d (all_at (Live s st) x xs m live) (all_at (Live s st) y xs n live)
 
 -- the one witness, which is granted and leaves all live exactly when every two exclude each other
@@ -63,7 +63,7 @@ witness_shows s sound xs known =
       calls = w.0;
       witness = v;
       only = λ others u. same_witness s xs u v;
-      fires = subst (All Fires) (sym v.whole) (All-append Fires v.fires (map (λ a. start a) v.openers) (firing_fires v.firing) (starts_fire v.openers));
+      fires = subst (Every Fires) (sym v.whole) (All-append Fires v.fires (map (λ a. start a) v.openers) (firing_fires v.firing) (starts_fire v.openers));
       state = g.0;
       all_granted = all;
       live = (excluding_live s sound xs g.0 known g.2, live_excluding s w.0 g.0 (grants_lead all) xs);

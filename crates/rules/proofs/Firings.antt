@@ -1,6 +1,6 @@
 -- Openers, needed and ready actors can be told; there is a firing; where none is ready, all needed have fired.
 use Rattle.std.proofs.Common.{◌≡◌, ℕ, zero, suc, ◌+◌, ◌<◌, ◌≤◌, false, ◌≢◌, ◌⊎◌, List, [], ◌∷◌, length, sym, refl, ap, ◌∙◌, subst, inl, inr, arith}
-use Rattle.rules.specs.Lists.{All, ◌∈◌, Lowest, numbers_from}
+use Rattle.rules.specs.Lists.{Every, ◌∈◌, Lowest, numbers_from}
 use Rattle.rules.specs.Sheets.{Sheet, actor_count}
 use Rattle.rules.specs.Order.{edges, Before, OrderedSheet}
 use Rattle.rules.specs.Objects.{object_count, first, always_live}
@@ -57,7 +57,7 @@ pub needed_known : (s : Sheet) → OrderedSheet s → (xs : List ℕ) {a : ℕ} 
 needed_known s sound xs n = before_known s sound n.ahead
 
 -- an opener is known
-pub opener_known : (s : Sheet) → OrderedSheet s → (xs : List ℕ) → All (λ x. x < object_count s) xs → {a : ℕ} → Opener s xs a → a < actor_count s
+pub opener_known : (s : Sheet) → OrderedSheet s → (xs : List ℕ) → Every (λ x. x < object_count s) xs → {a : ℕ} → Opener s xs a → a < actor_count s
 opener_known s sound xs known {a} o =
     let k : o.number < object_count s = all_at (λ x. x < object_count s) o.number xs o.listed known in
     let h = object_spans s sound o.number k o.passes in

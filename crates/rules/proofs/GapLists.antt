@@ -2,7 +2,7 @@
 use Rattle.std.proofs.Common.{◌≡◌, ℕ, suc, ◌-◌, ◌<◌, ◌≤◌, ◌⊎◌, List, [], ◌∷◌, sym, refl, subst, inl, inr, ⊎_elim, arith}
 use Rattle.std.proofs.lemmas.Bool.{cases_lt}
 use Rattle.rules.specs.declared.memory.Stretch.{Stretch}
-use Rattle.rules.specs.Stretches.{All, Any, ◌∈◌, Covers, Spaced, Gaps, Blocked, Untaken, Maximal}
+use Rattle.rules.specs.Stretches.{Every, Any, ◌∈◌, Covers, Spaced, Gaps, Blocked, Untaken, Maximal}
 use Rattle.rules.specs.PlacingLaws.{GapsAreTheMaximalStretches}
 use Rattle.rules.proofs.Members.{any_at, all_at}
 use Rattle.rules.proofs.Joined.{some_one}
@@ -13,10 +13,10 @@ In gs b = Any (λ g. Covers g b) gs
 
 -- none is empty, and none ends above the capacity
 abbrev pub Within : ℕ → List Stretch → Type 0
-Within capacity gs = All (λ g. (g.start < g.end) × (g.end ≤ capacity)) gs
+Within capacity gs = Every (λ g. (g.start < g.end) × (g.end ≤ capacity)) gs
 
 -- what is in gaps that start above n is above n
-pub after : (n : ℕ) (gs : List Stretch) → All (λ h. n < h.start) gs → (b : ℕ) → In gs b → n < b
+pub after : (n : ℕ) (gs : List Stretch) → Every (λ h. n < h.start) gs → (b : ℕ) → In gs b → n < b
 after n [] above b m = absurd m
 after n (g ∷ gs) above b (inl c) = let l = above.0 in omega arith
 after n (g ∷ gs) above b (inr m) = after n gs above.1 b m

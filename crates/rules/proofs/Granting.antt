@@ -2,7 +2,7 @@
 use Rattle.std.proofs.Common.{◌≡◌, ℕ, ◌<◌, ◌≢◌, ◌⊎◌, List, [], ◌∷◌, ◌++◌, map, length, get_or, set, sym, refl, ◌∙◌, subst, inl, inr, arith, length-set}
 use lib.ListN.{length-replicate}
 use Rattle.std.proofs.lemmas.List.{get_or-set_same, get_or-set_other}
-use Rattle.rules.specs.Lists.{All, ◌∈◌, AscendingNumbers}
+use Rattle.rules.specs.Lists.{Every, ◌∈◌, AscendingNumbers}
 use Rattle.rules.specs.Sheets.{Sheet, actor_count}
 use Rattle.rules.specs.Order.{Linked, edges, Before, OrderedSheet}
 use Rattle.rules.specs.Objects.{object_count}
@@ -125,12 +125,12 @@ firing_runs s sound xs (fire {fired} {cs} a low rest) st f need =
     (r.0, fires_one s fired st a f known low.holds.unfired low.holds.free r.1, r.2)
 
 -- a firing has starts and finishes only
-pub firing_fires : {s : Sheet} {xs fired : List ℕ} {cs : List Call} → Firing s xs fired cs → All Fires cs
+pub firing_fires : {s : Sheet} {xs fired : List ℕ} {cs : List Call} → Firing s xs fired cs → Every Fires cs
 firing_fires (over none) = tt
 firing_fires (fire a low rest) = (tt, (tt, firing_fires rest))
 
 -- so has a list of starts
-pub starts_fire : (todo : List ℕ) → All Fires (map (λ a. start a) todo)
+pub starts_fire : (todo : List ℕ) → Every Fires (map (λ a. start a) todo)
 starts_fire [] = tt
 starts_fire (a ∷ todo) = (tt, starts_fire todo)
 
@@ -161,7 +161,7 @@ opening s xs todo st extra all r =
     }
 
 -- one opener more is started
-pub opening_more : (s : Sheet) (xs todo : List ℕ) (st : State) (a : ℕ) → (Needed s xs a → ⊥) → a < actor_count s → All (λ b. a < b) todo →
+pub opening_more : (s : Sheet) (xs todo : List ℕ) (st : State) (a : ℕ) → (Needed s xs a → ⊥) → a < actor_count s → Every (λ b. a < b) todo →
     Opening s xs (a ∷ todo) st → Opening s xs todo (after st (start a))
 opening_more s xs todo st a extra known higher o =
     record {
@@ -185,7 +185,7 @@ opening_more s xs todo st a extra known higher o =
     step b (inr on) = elim (at_set st.phases a running b) [ inl same ↦ inr (λ w. on (sym same ∙ w)) | inr now ↦ inr (running_not_waiting now.1) ]
 
 -- the starts of the openers that are not needed are granted, and then every opener has started
-pub openers_run : (s : Sheet) → OrderedSheet s → (xs : List ℕ) → All (λ x. x < object_count s) xs → (todo : List ℕ) → AscendingNumbers todo →
+pub openers_run : (s : Sheet) → OrderedSheet s → (xs : List ℕ) → Every (λ x. x < object_count s) xs → (todo : List ℕ) → AscendingNumbers todo →
     ((a : ℕ) → a ∈ todo → Extra s xs a) → (st : State) → Opening s xs todo st →
     (end : State) × Grants s st (map (λ a. start a) todo) end × Opening s xs [] end
 openers_run s sound xs known [] up extra st o = (st, no_call, o)

@@ -1,6 +1,6 @@
 -- Members of joined lists, and what holds of all of a list by its members.
 use Rattle.std.proofs.Common.{◌⊎◌, List, [], ◌∷◌, ◌++◌, refl, inl, inr}
-use Rattle.rules.specs.Lists.{All, Any, ◌∈◌}
+use Rattle.rules.specs.Lists.{Every, Any, ◌∈◌}
 
 -- some one of joined lists is some one of either
 pub any_cases : {X : Type 0} (P : X → Type 0) (xs ys : List X) → Any P (xs ++ ys) → Any P xs ⊎ Any P ys
@@ -20,7 +20,7 @@ any_right P [] ys a = a
 any_right P (x ∷ xs) ys a = inr (any_right P xs ys a)
 
 -- what holds of each member holds of all
-pub all_from_members : {X : Type 0} (P : X → Type 0) (xs : List X) → ((x : X) → x ∈ xs → P x) → All P xs
+pub all_from_members : {X : Type 0} (P : X → Type 0) (xs : List X) → ((x : X) → x ∈ xs → P x) → Every P xs
 all_from_members P [] each = tt
 all_from_members P (x ∷ xs) each = (each x (inl refl), all_from_members P xs (λ y m. each y (inr m)))
 

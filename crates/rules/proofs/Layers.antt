@@ -2,7 +2,7 @@
 use Rattle.std.proofs.Common.{◌≡◌, ℕ, suc, ◌≤◌, Bool, true, false, cond, List, [], ◌∷◌, length, Some, None, filter, Option, arith}
 use Rattle.std.specs.Option.{option_or}
 use Rattle.rules.specs.declared.memory.Stretch.{Stretch}
-use Rattle.rules.specs.Stretches.{All}
+use Rattle.rules.specs.Stretches.{Every}
 use Rattle.rules.specs.Fitting.{Rule, Proper, Holds, Answers, Takes, IsFitRule, IsFirstFit, IsBestFit, Lower, Tighter, answer_from, asks_first, ends_below, is_snug}
 use Rattle.rules.specs.PlacingLaws.{LayersAreFitRules}
 use Rattle.rules.proofs.Members.{any_weaker, any_kept}
@@ -14,7 +14,7 @@ pub answers_from_takes : (Prior : Stretch → Stretch → Type 0) (gs : List Str
 answers_from_takes Prior gs size grain None t = t
 answers_from_takes Prior gs size grain (Some a) t =
     any_weaker
-    (λ g. Holds g size grain × (a ≡ answer_from g size grain) × All (λ h. Holds h size grain → Prior g h) gs)
+    (λ g. Holds g size grain × (a ≡ answer_from g size grain) × Every (λ h. Holds h size grain → Prior g h) gs)
     (λ g. Holds g size grain × (a ≡ answer_from g size grain))
     (λ g p. (p.0, p.1)) gs t
 

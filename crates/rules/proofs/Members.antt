@@ -1,6 +1,6 @@
 -- Some one of a list.
 use Rattle.std.proofs.Common.{Bool, true, false, cond, ◌⊎◌, List, [], ◌∷◌, filter, sym, subst, inl, inr}
-use Rattle.rules.specs.Stretches.{All, Any, ◌∈◌}
+use Rattle.rules.specs.Stretches.{Every, Any, ◌∈◌}
 
 pub any_weaker : {X : Type 0} (P Q : X → Type 0) → ((x : X) → P x → Q x) → (xs : List X) → Any P xs → Any Q xs
 any_weaker P Q to [] a = a
@@ -14,7 +14,7 @@ any_at P x (y ∷ ys) (inl e) p = inl (subst P e p)
 any_at P x (y ∷ ys) (inr m) p = inr (any_at P x ys m p)
 
 -- what holds of all holds of a member
-pub all_at : {X : Type 0} (P : X → Type 0) (x : X) (xs : List X) → x ∈ xs → All P xs → P x
+pub all_at : {X : Type 0} (P : X → Type 0) (x : X) (xs : List X) → x ∈ xs → Every P xs → P x
 all_at P x [] m a = absurd m
 all_at P x (y ∷ ys) (inl e) a = subst P (sym e) a.0
 all_at P x (y ∷ ys) (inr m) a = all_at P x ys m a.1

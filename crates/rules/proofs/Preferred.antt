@@ -3,7 +3,7 @@ use Rattle.std.proofs.Common.{◌≡◌, ℕ, ◌+◌, ◌<◌, ◌≤◌, ◌�
 use Rattle.std.proofs.ByRecursion.{All-weaker}
 use Rattle.std.proofs.lemmas.Bool.{cases_lt, cases_order}
 use Rattle.rules.specs.declared.memory.Stretch.{Stretch}
-use Rattle.rules.specs.Stretches.{All, ◌∈◌}
+use Rattle.rules.specs.Stretches.{Every, ◌∈◌}
 use Rattle.rules.specs.Fitting.{place_in, Holds, answer_from, Ascending, Takes, Lower, Tighter, width}
 use Rattle.rules.specs.PlacingLaws.{FirstAndBestFit}
 use Rattle.rules.proofs.Members.{any_at, all_at}
@@ -11,7 +11,7 @@ use Rattle.rules.proofs.Joined.{some_one}
 use Rattle.rules.proofs.Layers.{first_fit_is_a_fit_rule, best_fit_is_a_fit_rule}
 
 -- gaps of a proper question that start at one byte are one gap
-pub same_start : (gs : List Stretch) → All (λ g. (g.start < g.end) × (g.end ≤ 4294967295)) gs → Ascending gs →
+pub same_start : (gs : List Stretch) → Every (λ g. (g.start < g.end) × (g.end ≤ 4294967295)) gs → Ascending gs →
     (g h : Stretch) → g ∈ gs → h ∈ gs → g.start ≡ h.start → g ≡ h
 same_start [] w up g h i j e = absurd i
 same_start (k ∷ ks) w up g h (inl a) (inl b) e = a ∙ sym b
@@ -32,8 +32,8 @@ module _ (Prior : Stretch → Stretch → Type 0) (one_way : (g h : Stretch) →
   -- the gap that comes first of those that hold the size, if one does
   abbrev Picked : List Stretch → Type 0
   Picked gs =
-      All (λ g. Holds g size grain → ⊥) gs
-      ⊎ ((g : Stretch) × (g ∈ gs) × Holds g size grain × All (λ h. Holds h size grain → Prior g h) gs)
+      Every (λ g. Holds g size grain → ⊥) gs
+      ⊎ ((g : Stretch) × (g ∈ gs) × Holds g size grain × Every (λ h. Holds h size grain → Prior g h) gs)
 
   pick : (gs : List Stretch) → Picked gs
   pick [] = inl tt
@@ -67,7 +67,7 @@ module _ (Prior : Stretch → Stretch → Type 0) (one_way : (g h : Stretch) →
   answer_takes gs (inl absent) = absent
   answer_takes gs (inr r) =
       any_at
-      (λ g. Holds g size grain × (answer_from r.0 size grain ≡ answer_from g size grain) × All (λ h. Holds h size grain → Prior g h) gs)
+      (λ g. Holds g size grain × (answer_from r.0 size grain ≡ answer_from g size grain) × Every (λ h. Holds h size grain → Prior g h) gs)
       r.0 gs r.1 (r.2, refl, r.3)
 
   -- an answer that takes the first gap exists
@@ -79,14 +79,14 @@ module _ (Prior : Stretch → Stretch → Type 0) (one_way : (g h : Stretch) →
       (a b : Option (ℕ × ℕ)) → Takes Prior gs size grain a → Takes Prior gs size grain b → a ≡ b
   one_answer gs same None None s t = refl
   one_answer gs same None (Some b) s t =
-      let r = some_one (λ g. Holds g size grain × (b ≡ answer_from g size grain) × All (λ h. Holds h size grain → Prior g h) gs) gs t in
+      let r = some_one (λ g. Holds g size grain × (b ≡ answer_from g size grain) × Every (λ h. Holds h size grain → Prior g h) gs) gs t in
       absurd (all_at (λ g. Holds g size grain → ⊥) r.0 gs r.1 s r.2.0)
   one_answer gs same (Some a) None s t =
-      let r = some_one (λ g. Holds g size grain × (a ≡ answer_from g size grain) × All (λ h. Holds h size grain → Prior g h) gs) gs s in
+      let r = some_one (λ g. Holds g size grain × (a ≡ answer_from g size grain) × Every (λ h. Holds h size grain → Prior g h) gs) gs s in
       absurd (all_at (λ g. Holds g size grain → ⊥) r.0 gs r.1 t r.2.0)
   one_answer gs same (Some a) (Some b) s t =
-      let q = some_one (λ g. Holds g size grain × (a ≡ answer_from g size grain) × All (λ h. Holds h size grain → Prior g h) gs) gs s in
-      let r = some_one (λ g. Holds g size grain × (b ≡ answer_from g size grain) × All (λ h. Holds h size grain → Prior g h) gs) gs t in
+      let q = some_one (λ g. Holds g size grain × (a ≡ answer_from g size grain) × Every (λ h. Holds h size grain → Prior g h) gs) gs s in
+      let r = some_one (λ g. Holds g size grain × (b ≡ answer_from g size grain) × Every (λ h. Holds h size grain → Prior g h) gs) gs t in
       let e : q.0 ≡ r.0 =
       same q.0 r.0 q.1 r.1 (all_at (λ h. Holds h size grain → Prior q.0 h) r.0 gs r.1 q.2.2 r.2.0)
       (all_at (λ h. Holds h size grain → Prior r.0 h) q.0 gs q.1 r.2.2 q.2.0)

@@ -3,7 +3,7 @@ use Rattle.std.proofs.Common.{◌≡◌, ℕ, zero, suc, ◌^◌, ◌<◌, ◌�
 use Rattle.std.proofs.ByRecursion.{All-weaker}
 use Rattle.std.proofs.lemmas.Bool.{and_parts, and_from, leb-true, ltb-true, eqb-true, eq-eqb, le-leb, lt-ltb, or_cases, or_left, or_right, cases_eq}
 use Rattle.rules.specs.declared.memory.Stretch.{Stretch}
-use Rattle.rules.specs.Stretches.{All}
+use Rattle.rules.specs.Stretches.{Every}
 use Rattle.rules.specs.Fitting.{Ascending, OnTheTable, Proper, up_to_row, is_grain, ascend_from}
 
 -- ---- the grain
@@ -67,7 +67,7 @@ kept_ascend p low (g ∷ gs) t =
     [ true ↦ next_from low g (filter p gs) a.0 rest | false ↦ ascend_lower low g.end (filter p gs) (omega arith) rest ]
 
 -- each gap starts at or above `low`
-pub all_from : (low : ℕ) (gs : List Stretch) → ascend_from low gs ≡ true → All (λ h. low ≤ h.start) gs
+pub all_from : (low : ℕ) (gs : List Stretch) → ascend_from low gs ≡ true → Every (λ h. low ≤ h.start) gs
 all_from low [] t = tt
 all_from low (g ∷ gs) t =
     let p = next_parts low g gs t in
@@ -78,13 +78,13 @@ ascending_from_test low [] t = tt
 ascending_from_test low (g ∷ gs) t =
     let p = next_parts low g gs t in (all_from g.end gs p.1, ascending_from_test g.end gs p.1)
 
-pub range_from_test : (low : ℕ) (gs : List Stretch) → ascend_from low gs ≡ true → All (λ g. (g.start < g.end) × (g.end ≤ 4294967295)) gs
+pub range_from_test : (low : ℕ) (gs : List Stretch) → ascend_from low gs ≡ true → Every (λ g. (g.start < g.end) × (g.end ≤ 4294967295)) gs
 range_from_test low [] t = tt
 range_from_test low (g ∷ gs) t =
     let p = next_parts low g gs t in ((p.0.1, p.0.2), range_from_test g.end gs p.1)
 
-pub test_from_ascending : (low : ℕ) (gs : List Stretch) → All (λ g. low ≤ g.start) gs → Ascending gs →
-    All (λ g. (g.start < g.end) × (g.end ≤ 4294967295)) gs → ascend_from low gs ≡ true
+pub test_from_ascending : (low : ℕ) (gs : List Stretch) → Every (λ g. low ≤ g.start) gs → Ascending gs →
+    Every (λ g. (g.start < g.end) × (g.end ≤ 4294967295)) gs → ascend_from low gs ≡ true
 test_from_ascending low [] from up range = refl
 test_from_ascending low (g ∷ gs) from up range =
     next_from low g gs (from.0, range.0.0, range.0.1) (test_from_ascending g.end gs up.0 up.1 range.1)

@@ -7,7 +7,7 @@ use Rattle.rules.specs.declared.memory.Object.{Object}
 use Rattle.rules.specs.declared.sheet.Actor.{Actor}
 use Rattle.rules.specs.declared.sheet.Link.{Link}
 use Rattle.rules.specs.declared.sheet.Link.TheVariants.{Plain, Delayed, Ordered}
-use Rattle.rules.specs.Lists.{All}
+use Rattle.rules.specs.Lists.{Every}
 use Rattle.rules.specs.Fabrics.{Meaning, OfOneOrTwo, member}
 use Rattle.rules.specs.Sheets.{Sheet, actor_count, core}
 use Rattle.rules.specs.Order.{Ends, OrderedSheet}
@@ -18,17 +18,17 @@ use Rattle.rules.specs.Layouts.{RunsOn, Placeable, Layout, SoundLayout}
 abbrev ActorsBelow : ℕ → Object → Type 0
 ActorsBelow n o = (o.producer < n) × (o.consumer < n)
 
-areas_below : (n a : ℕ) (xs : List Actor) → a + length xs ≤ n → All (ActorsBelow n) (areas a xs)
+areas_below : (n a : ℕ) (xs : List Actor) → a + length xs ≤ n → Every (ActorsBelow n) (areas a xs)
 areas_below n a [] l = tt
 areas_below n a (x ∷ xs) l =
     All-append (ActorsBelow n) (area_of a x.work) (areas (suc a) xs) here (areas_below n (suc a) xs (omega arith))
   where
-    here : All (ActorsBelow n) (area_of a x.work)
+    here : Every (ActorsBelow n) (area_of a x.work)
     here =
-        elim (eqb x.work 0) as (λ t. All (ActorsBelow n) (cond t [] (record { producer = a; consumer = a; size = x.work; delayed = false } ∷ [])))
+        elim (eqb x.work 0) as (λ t. Every (ActorsBelow n) (cond t [] (record { producer = a; consumer = a; size = x.work; delayed = false } ∷ [])))
         [ true ↦ tt | false ↦ ((omega arith, omega arith), tt) ]
 
-buffers_below : (n : ℕ) (ks : List Link) → All (Ends n) ks → All (ActorsBelow n) (buffers ks)
+buffers_below : (n : ℕ) (ks : List Link) → Every (Ends n) ks → Every (ActorsBelow n) (buffers ks)
 buffers_below n [] ends = tt
 buffers_below n (Plain f ∷ ks) ends = (ends.0, buffers_below n ks ends.1)
 buffers_below n (Delayed f ∷ ks) ends = (ends.0, buffers_below n ks ends.1)

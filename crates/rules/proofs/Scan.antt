@@ -3,7 +3,7 @@ use Rattle.std.proofs.Common.{◌≡◌, ℕ, zero, suc, ◌+◌, ◌<◌, ◌�
 use Rattle.std.proofs.ByRecursion.{All-weaker}
 use Rattle.std.proofs.lemmas.Bool.{cases_eq}
 use Rattle.rules.specs.declared.memory.Stretch.{Stretch}
-use Rattle.rules.specs.Stretches.{All, Covers, Spaced, Gaps, Blocked}
+use Rattle.rules.specs.Stretches.{Every, Covers, Spaced, Gaps, Blocked}
 use Rattle.rules.specs.PlacingLaws.{GapsExistOnce}
 use Rattle.rules.proofs.Deciding.{Decided, turned, not, both, below, any_decided}
 use Rattle.rules.proofs.GapLists.{In, gaps_alike}
@@ -16,12 +16,12 @@ module _ (capacity : ℕ) (Taken : ℕ → Type 0) (taken? : (b : ℕ) → Decid
   -- the gaps that the bytes from `low` on leave
   record GapsFrom (low : ℕ) (gs : List Stretch) : Type 0 where
     spaced : Spaced gs
-    each : All (λ g. (low ≤ g.start) × (g.start < g.end) × (g.end ≤ capacity)) gs
+    each : Every (λ g. (low ≤ g.start) × (g.start < g.end) × (g.end ≤ capacity)) gs
     exactly : (b : ℕ) → low ≤ b → b < capacity → In gs b ↔ (Taken b → ⊥)
 
   -- a free byte more
   with_byte : (k : ℕ) (gs hs : List Stretch) → GapsFrom (suc k) gs → (Taken k → ⊥) → Spaced hs →
-      All (λ g. (k ≤ g.start) × (g.start < g.end) × (g.end ≤ capacity)) hs →
+      Every (λ g. (k ≤ g.start) × (g.start < g.end) × (g.end ≤ capacity)) hs →
       ((b : ℕ) → In hs b → (b ≡ k) ⊎ In gs b) → ((b : ℕ) → (b ≡ k) ⊎ In gs b → In hs b) → GapsFrom k hs
   with_byte k gs hs G free spaced each to back =
       record { spaced = spaced; each = each; exactly = λ b l h. exact b l h (cases_eq b k) }
@@ -86,7 +86,7 @@ module _ (capacity : ℕ) (Taken : ℕ → Type 0) (taken? : (b : ℕ) → Decid
         },
       )
         where
-          above : (b : ℕ) (hs : List Stretch) → All (λ g. (suc k ≤ g.start) × (g.start < g.end) × (g.end ≤ capacity)) hs → In hs b → suc k ≤ b
+          above : (b : ℕ) (hs : List Stretch) → Every (λ g. (suc k ≤ g.start) × (g.start < g.end) × (g.end ≤ capacity)) hs → In hs b → suc k ≤ b
           above b [] w m = absurd m
           above b (h ∷ hs) w (inl c) = let v = w.0 in omega arith
           above b (h ∷ hs) w (inr m) = above b hs w.1 m

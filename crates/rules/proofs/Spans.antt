@@ -5,7 +5,7 @@ use Rattle.rules.specs.declared.memory.Object.{Object}
 use Rattle.rules.specs.declared.sheet.Actor.{Actor}
 use Rattle.rules.specs.declared.sheet.Link.{Link}
 use Rattle.rules.specs.declared.sheet.Link.TheVariants.{Plain, Delayed, Ordered}
-use Rattle.rules.specs.Lists.{All}
+use Rattle.rules.specs.Lists.{Every}
 use Rattle.rules.specs.Sheets.{Sheet, actor_count}
 use Rattle.rules.specs.Order.{one, edges, Before, Ends, OrderedSheet}
 use Rattle.rules.specs.Objects.{area_of, areas, buffers, objects, object_count, first, last, always_live}
@@ -13,7 +13,7 @@ use Rattle.rules.proofs.Chains.{Paired, chain_join}
 use Rattle.rules.proofs.Orderings.{chain_begins}
 
 -- both ends of a pair that links order are known, where the links' ends are
-pub edge_known : (n : ℕ) (ks : List Link) → All (Ends n) ks → (a b : ℕ) → Paired (edges ks) a b → (a < n) × (b < n)
+pub edge_known : (n : ℕ) (ks : List Link) → Every (Ends n) ks → (a b : ℕ) → Paired (edges ks) a b → (a < n) × (b < n)
 edge_known n [] ends a b m = absurd m
 edge_known n (Plain f ∷ ks) ends a b (inl e) =
     let p : a ≡ f.from = ap (λ (q : ℕ × ℕ). q.0) e in
@@ -38,18 +38,18 @@ Spans n pairs o =
     o.delayed ≡ false → (o.producer < n) × ((o.producer ≡ o.consumer) ⊎ Paired pairs o.producer o.consumer)
 
 -- working areas span so
-areas_span : (n : ℕ) (pairs : List (ℕ × ℕ)) (a : ℕ) (xs : List Actor) → a + length xs ≤ n → All (Spans n pairs) (areas a xs)
+areas_span : (n : ℕ) (pairs : List (ℕ × ℕ)) (a : ℕ) (xs : List Actor) → a + length xs ≤ n → Every (Spans n pairs) (areas a xs)
 areas_span n pairs a [] l = tt
 areas_span n pairs a (x ∷ xs) l = All-append (Spans n pairs) (area_of a x.work) (areas (suc a) xs) here (areas_span n pairs (suc a) xs (omega arith))
   where
-    here : All (Spans n pairs) (area_of a x.work)
+    here : Every (Spans n pairs) (area_of a x.work)
     here =
-        elim (eqb x.work 0) as (λ t. All (Spans n pairs) (cond t [] (record { producer = a; consumer = a; size = x.work; delayed = false } ∷ [])))
+        elim (eqb x.work 0) as (λ t. Every (Spans n pairs) (cond t [] (record { producer = a; consumer = a; size = x.work; delayed = false } ∷ [])))
         [ true ↦ tt | false ↦ (λ p. (omega arith, inl refl), tt) ]
 
 -- and FIFOs do, where the links' ends are known
-buffers_span : (n : ℕ) (pairs : List (ℕ × ℕ)) (ks : List Link) → All (Ends n) ks →
-    ((a b : ℕ) → Paired (edges ks) a b → Paired pairs a b) → All (Spans n pairs) (buffers ks)
+buffers_span : (n : ℕ) (pairs : List (ℕ × ℕ)) (ks : List Link) → Every (Ends n) ks →
+    ((a b : ℕ) → Paired (edges ks) a b → Paired pairs a b) → Every (Spans n pairs) (buffers ks)
 buffers_span n pairs [] ends sub = tt
 buffers_span n pairs (Plain f ∷ ks) ends sub =
     (λ p. (ends.0.0, inr (sub f.from f.to (inl refl))), buffers_span n pairs ks ends.1 (λ a b m. sub a b (inr m)))
@@ -58,7 +58,7 @@ buffers_span n pairs (Delayed f ∷ ks) ends sub =
 buffers_span n pairs (Ordered q ∷ ks) ends sub = buffers_span n pairs ks ends.1 (λ a b m. sub a b (inr m))
 
 -- all objects of a sheet span so
-pub objects_span : (s : Sheet) → OrderedSheet s → All (Spans (actor_count s) (edges s.links)) (objects s)
+pub objects_span : (s : Sheet) → OrderedSheet s → Every (Spans (actor_count s) (edges s.links)) (objects s)
 objects_span s sound =
     All-append (Spans (actor_count s) (edges s.links)) (areas zero s.actors) (buffers s.links)
     (areas_span (actor_count s) (edges s.links) zero s.actors (omega arith))

@@ -3,7 +3,7 @@ use Rattle.std.proofs.Common.{◌≡◌, ℕ, ◌+◌, ◌⊎◌, ◌↔◌, Lis
 use Rattle.std.specs.Option.{option_map}
 use Rattle.std.proofs.lemmas.Bool.{cases_eq}
 use Rattle.rules.specs.declared.memory.Stretch.{Stretch}
-use Rattle.rules.specs.Lists.{◌∈◌, All, Any}
+use Rattle.rules.specs.Lists.{◌∈◌, Every, Any}
 use Rattle.rules.specs.Stretches.{Covers, Gaps, Blocked}
 use Rattle.rules.specs.Fitting.{Rule}
 use Rattle.rules.specs.Placing.{Bank, Places, Earlier, Taken, ByTheRule, Placing, Full, LacksSpace}
@@ -18,7 +18,7 @@ module _ (bank : Bank) where
   -- each has its turn before all that follow
   abbrev pub InTurn : List ℕ → Type 0
   InTurn [] = Unit {0}
-  InTurn (x ∷ xs) = All (λ y. Earlier bank x y) xs × InTurn xs
+  InTurn (x ∷ xs) = Every (λ y. Earlier bank x y) xs × InTurn xs
 
   -- those listed before x are earlier
   pub earlier_in_front : (front : List ℕ) (x : ℕ) (back : List ℕ) → InTurn (front ++ x ∷ back) → (y : ℕ) → y ∈ front → Earlier bank y x
@@ -49,8 +49,8 @@ module _ (bank : Bank) where
     Rightly it = (places (object it) ≡ Some (on it).start) × ((on it).end ≡ (on it).start + bank.size (object it))
 
     -- the bytes of the items that exclude x are those that are taken at its turn, where all items are earlier
-    pub gaps_seen : (x : ℕ) → All Rightly items → ((y p : ℕ) → places y ≡ Some p → Any (λ it. object it ≡ y) items) →
-        All (λ it. (object it ∈ bank.objects) × Earlier bank (object it) x) items →
+    pub gaps_seen : (x : ℕ) → Every Rightly items → ((y p : ℕ) → places y ≡ Some p → Any (λ it. object it ≡ y) items) →
+        Every (λ it. (object it ∈ bank.objects) × Earlier bank (object it) x) items →
         (blocked : List Stretch) → ((b : ℕ) → Blocked blocked b ↔ Any (λ it. bank.Excludes (object it) x × Covers (on it) b) items) →
         (gs : List Stretch) → Gaps bank.capacity (Blocked blocked) gs → Gaps bank.capacity (Taken bank places x) gs
     gaps_seen x rightly found early blocked same gs G = gaps_to bank.capacity (Blocked blocked) (Taken bank places x) to back gs G

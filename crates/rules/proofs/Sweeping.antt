@@ -3,17 +3,17 @@ use Rattle.std.proofs.Common.{ℕ, ◌<◌, ◌≤◌, min, max, ◌⊎◌, List
 use Rattle.std.proofs.ByRecursion.{All-weaker, All-push}
 use Rattle.std.proofs.lemmas.Bool.{cases_lt}
 use Rattle.rules.specs.declared.memory.Stretch.{Stretch}
-use Rattle.rules.specs.Stretches.{All, Covers, Spaced, Gaps, Blocked}
+use Rattle.rules.specs.Stretches.{Every, Covers, Spaced, Gaps, Blocked}
 use Rattle.rules.proofs.Joined.{any_cases, any_left, any_right}
 use Rattle.rules.proofs.GapLists.{In, Within}
 
 -- what holds of all of a list holds of those before the last, and of the last
-all_but_last : {X : Type 0} (P : X → Type 0) (xs : List X) (x : X) → All P (xs ++ x ∷ []) → All P xs × P x
+all_but_last : {X : Type 0} (P : X → Type 0) (xs : List X) (x : X) → Every P (xs ++ x ∷ []) → Every P xs × P x
 all_but_last P [] x a = (tt, a.0)
 all_but_last P (y ∷ ys) x a = let rest = all_but_last P ys x a.1 in ((a.0, rest.0), rest.1)
 
 -- one gap more, behind all others
-pub spaced_push : (gs : List Stretch) (g : Stretch) → Spaced gs → All (λ h. h.end < g.start) gs → Spaced (gs ++ g ∷ [])
+pub spaced_push : (gs : List Stretch) (g : Stretch) → Spaced gs → Every (λ h. h.end < g.start) gs → Spaced (gs ++ g ∷ [])
 spaced_push [] g s behind = (tt, tt)
 spaced_push (h ∷ hs) g s behind = (All-push (λ k. h.end < k.start) hs g s.0 behind.0, spaced_push hs g s.1 behind.1)
 
@@ -21,9 +21,9 @@ spaced_push (h ∷ hs) g s behind = (All-push (λ k. h.end < k.start) hs g s.0 b
 pub record Swept (capacity : ℕ) (done gs : List Stretch) (free : ℕ) : Type 0 where
   pub spaced : Spaced gs
   pub each : Within capacity gs
-  pub behind : All (λ g. g.end < free) gs
+  pub behind : Every (λ g. g.end < free) gs
   -- the gaps lie below every start that no start done lies above
-  pub before : (n : ℕ) → All (λ s. s.start ≤ n) done → (b : ℕ) → In gs b → b < n
+  pub before : (n : ℕ) → Every (λ s. s.start ≤ n) done → (b : ℕ) → In gs b → b < n
   pub apart : (b : ℕ) → In gs b → Blocked done b → ⊥
   pub seen : (b : ℕ) → b < free → b < capacity → In gs b ⊎ Blocked done b
   pub reach : (b : ℕ) → Blocked done b → b < free
@@ -42,7 +42,7 @@ swept_none capacity =
     }
 
 module _ (capacity : ℕ) (done gs : List Stretch) (free : ℕ) (swept : Swept capacity done gs free) where
-  module _ (s : Stretch) (last : All (λ t. t.start ≤ s.start) done) where
+  module _ (s : Stretch) (last : Every (λ t. t.start ≤ s.start) done) where
     reach_more : (b : ℕ) → Blocked (done ++ s ∷ []) b → b < max free s.end
     reach_more b t = by (any_cases (λ k. Covers k b) done (s ∷ []) t)
       where

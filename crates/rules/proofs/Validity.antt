@@ -12,7 +12,7 @@ use Rattle.rules.specs.declared.sheet.Link.{Link}
 use Rattle.rules.specs.declared.sheet.Link.TheVariants.{Plain, Delayed, Ordered}
 use Rattle.rules.specs.declared.sheet.Entry.{Entry}
 use Rattle.rules.specs.declared.sheet.Entry.TheVariants.{OnMachine, NextActor, NextLink}
-use Rattle.rules.specs.Lists.{All}
+use Rattle.rules.specs.Lists.{Every}
 use Rattle.rules.specs.Fitting.{OnTheTable}
 use Rattle.rules.specs.Fabrics.{Meaning, by_kind, fabric_of}
 use Rattle.rules.specs.Sheets.{Sheet, actor_count}
@@ -44,11 +44,11 @@ pub record SoundMachine (m : Machine) : Type 0 where
 pub record SoundSheet (s : Sheet) : Type 0 where
   pub on_machine : SoundMachine s.machine
   pub ordered : OrderedSheet s
-  pub cores_known : All (λ a. a.core < s.machine.cores) s.actors
-  pub works_in_range : All (λ a. a.work ≤ 16777216) s.actors
+  pub cores_known : Every (λ a. a.core < s.machine.cores) s.actors
+  pub works_in_range : Every (λ a. a.work ≤ 16777216) s.actors
   pub few_actors : length s.actors ≤ 64
   pub few_fifos : fifo_count s.links ≤ 192
-  pub links_in_range : All (λ k. InRange (NextLink k)) s.links
+  pub links_in_range : Every (λ k. InRange (NextLink k)) s.links
 
 -- a draft whose entries were taken one after the other
 abbrev pub SoundDraft : Draft → Type 0
@@ -127,7 +127,7 @@ kept (actor_then s a none) w free p =
     record {
       on_machine = p.on_machine;
       ordered = record {
-        ends = subst (λ (ks : List Link). All (Ends (length (s.actors ++ (a ∷ [])))) ks) (sym none) tt;
+        ends = subst (λ (ks : List Link). Every (Ends (length (s.actors ++ (a ∷ [])))) ks) (sym none) tt;
         no_circle = p.ordered.no_circle;
       };
       cores_known = All-push (λ x. x.core < s.machine.cores) s.actors a p.cores_known (omega arith);
@@ -169,11 +169,11 @@ few_areas a (x ∷ xs) = one (few_areas (suc a) xs) (eqb x.work 0)
     one few true = omega arith
     one few false = omega arith
 
-sized_areas : (a : ℕ) (xs : List Actor) → All (λ x. x.work ≤ 16777216) xs → All Sized (areas a xs)
+sized_areas : (a : ℕ) (xs : List Actor) → Every (λ x. x.work ≤ 16777216) xs → Every Sized (areas a xs)
 sized_areas a [] p = tt
 sized_areas a (x ∷ xs) p = All-append Sized (area_of a x.work) (areas (suc a) xs) (one (eqb x.work 0) refl) (sized_areas (suc a) xs p.1)
   where
-    one : (b : Bool) → eqb x.work 0 ≡ b → All Sized (cond b [] (record { producer = a; consumer = a; size = x.work; delayed = false } ∷ []))
+    one : (b : Bool) → eqb x.work 0 ≡ b → Every Sized (cond b [] (record { producer = a; consumer = a; size = x.work; delayed = false } ∷ []))
     one true t = tt
     one false t = let some = eqb-false x.work 0 t in ((omega arith, p.0), tt)
 
@@ -183,7 +183,7 @@ few_buffers (Plain f ∷ ks) = omega (arith, few_buffers ks)
 few_buffers (Delayed f ∷ ks) = omega (arith, few_buffers ks)
 few_buffers (Ordered q ∷ ks) = few_buffers ks
 
-sized_buffers : (ks : List Link) → All (λ k. InRange (NextLink k)) ks → All Sized (buffers ks)
+sized_buffers : (ks : List Link) → Every (λ k. InRange (NextLink k)) ks → Every Sized (buffers ks)
 sized_buffers [] p = tt
 sized_buffers (Plain f ∷ ks) p = (p.0, sized_buffers ks p.1)
 sized_buffers (Delayed f ∷ ks) p = (p.0, sized_buffers ks p.1)
@@ -208,7 +208,7 @@ kind_cores Hybrid cores shared private = refl
 own_cores : (s : Sheet) → SoundSheet s → RunsOn s (fabric_of s.machine)
 own_cores s p =
     let m = s.machine in
-    subst (λ (n : ℕ). All (λ a. a.core < n) s.actors) (kind_cores m.kind m.cores m.shared m.private) p.cores_known
+    subst (λ (n : ℕ). Every (λ a. a.core < n) s.actors) (kind_cores m.kind m.cores m.shared m.private) p.cores_known
 
 -- a sound sheet can be placed on every lawful fabric that has its cores
 pub sound_placeable : (s : Sheet) (m : Meaning) → SoundSheet s → Lawful m → RunsOn s m → Placeable s m

@@ -1,7 +1,7 @@
 -- The witness of a list of objects: there is one, and only one.
 use Rattle.std.proofs.Common.{◌≡◌, ℕ, zero, suc, ◌+◌, ◌<◌, ◌≤◌, List, [], ◌∷◌, ◌++◌, map, sym, refl, subst, inl, inr, arith}
 use Rattle.std.proofs.ByRecursion.{All-weaker}
-use Rattle.rules.specs.Lists.{All, ◌∈◌, AscendingNumbers}
+use Rattle.rules.specs.Lists.{Every, ◌∈◌, AscendingNumbers}
 use Rattle.rules.specs.Sheets.{Sheet, actor_count}
 use Rattle.rules.specs.Order.{OrderedSheet}
 use Rattle.rules.specs.Objects.{object_count}
@@ -52,7 +52,7 @@ same_ascending (m ∷ ms) (n ∷ ns) up up' to back =
 pub record Those (P : ℕ → Type 0) (low count : ℕ) : Type 0 where
   pub list : List ℕ
   pub ascending : AscendingNumbers list
-  pub from_low : All (λ a. low ≤ a) list
+  pub from_low : Every (λ a. low ≤ a) list
   pub sound : (a : ℕ) → a ∈ list → P a
   pub complete : (a : ℕ) → P a → low ≤ a → a < low + count → a ∈ list
 
@@ -62,7 +62,7 @@ those P each low zero =
     record { list = []; ascending = tt; from_low = tt; sound = λ a m. absurd m; complete = λ a p l u. absurd (omega arith) }
 those P each low (suc count) = add (each low) (those P each (suc low) count)
   where
-    raised : (ns : List ℕ) → All (λ a. suc low ≤ a) ns → All (λ a. low ≤ a) ns
+    raised : (ns : List ℕ) → Every (λ a. suc low ≤ a) ns → Every (λ a. low ≤ a) ns
     raised ns h = All-weaker (λ a. suc low ≤ a) (λ a. low ≤ a) (λ a l. omega arith) ns h
 
     add : Decided (P low) → Those P (suc low) count → Those P low (suc count)
@@ -84,7 +84,7 @@ those P each low (suc count) = add (each low) (those P each (suc low) count)
         }
 
 -- the witness of a list of objects
-unfoldable pub some_witness : (s : Sheet) → OrderedSheet s → (xs : List ℕ) → All (λ x. x < object_count s) xs → (cs : List Call) × Witness s xs cs
+unfoldable pub some_witness : (s : Sheet) → OrderedSheet s → (xs : List ℕ) → Every (λ x. x < object_count s) xs → (cs : List Call) × Witness s xs cs
 unfolding some_firing those both not opener needed
 some_witness s sound xs known =
     let f = some_firing s sound xs in

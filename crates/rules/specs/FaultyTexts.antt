@@ -1,7 +1,7 @@
 -- Small texts that are refused, each with the number and the line of its fault.
 use Rattle.std.specs.Prelude.{ℕ, List, [], ◌∷◌, ◌++◌, Some, codes, Option}
 use Prim.Native.String.{String}
-use Rattle.rules.specs.Lists.{All}
+use Rattle.rules.specs.Lists.{Every}
 use Rattle.rules.specs.Reading.{Gives, fault}
 
 pub record Faulty : Type 0 where
@@ -143,4 +143,4 @@ faulty_texts = first_lines ++ (bad_lines ++ (bad_turns ++ (bad_ranges ++ bad_lin
 
 -- each of them gives its fault
 abbrev pub FaultyTextsAreRefused : Type 0
-FaultyTextsAreRefused = All (λ f. Gives f.text (fault f.number f.line)) faulty_texts
+FaultyTextsAreRefused = Every (λ f. Gives f.text (fault f.number f.line)) faulty_texts

@@ -4,7 +4,7 @@ use Rattle.std.specs.Option.{option_or}
 use Rattle.rules.specs.declared.memory.Stretch.{Stretch}
 use Rattle.rules.specs.declared.sheet.Layer.{Layer}
 use Rattle.rules.specs.declared.sheet.Layer.TheVariants.{LowLine, SnugLimit}
-use Rattle.rules.specs.Stretches.{All, Any, rounded_up}
+use Rattle.rules.specs.Stretches.{Every, Any, rounded_up}
 
 -- the start of a gap, rounded up to the grain
 abbrev pub place_in : Stretch → ℕ → ℕ
@@ -24,13 +24,13 @@ answer_from g size grain = (place_in g grain, left_over g size grain)
 
 -- absent exactly when no gap holds the size, else taken from one that does
 abbrev pub Answers : List Stretch → ℕ → ℕ → Option (ℕ × ℕ) → Type 0
-Answers gs size grain None = All (λ g. Holds g size grain → ⊥) gs
+Answers gs size grain None = Every (λ g. Holds g size grain → ⊥) gs
 Answers gs size grain (Some a) = Any (λ g. Holds g size grain × (a ≡ answer_from g size grain)) gs
 
 -- no gap starts below the end of one listed before it
 abbrev pub Ascending : List Stretch → Type 0
 Ascending [] = Unit {0}
-Ascending (g ∷ gs) = All (λ h. g.end ≤ h.start) gs × Ascending gs
+Ascending (g ∷ gs) = Every (λ h. g.end ≤ h.start) gs × Ascending gs
 
 -- a power of two from 1 to 4,096
 abbrev pub OnTheTable : ℕ → Type 0
@@ -40,7 +40,7 @@ OnTheTable grain = (k : ℕ) × (k ≤ 12) × (grain ≡ 2 ^ k)
 pub record Proper (gs : List Stretch) (size grain : ℕ) : Type 0 where
   pub size_in_range : (0 < size) × (size ≤ 16777216)
   pub grain_on_the_table : OnTheTable grain
-  pub gaps_in_range : All (λ g. (g.start < g.end) × (g.end ≤ 4294967295)) gs
+  pub gaps_in_range : Every (λ g. (g.start < g.end) × (g.end ≤ 4294967295)) gs
   pub ascending : Ascending gs
   pub few : length gs ≤ 256
 
@@ -69,9 +69,9 @@ IsFitRule rule = (gs : List Stretch) (size grain : ℕ) → Proper gs size grain
 
 -- takes, of the gaps that hold the size, one that comes first by an order of gaps
 abbrev pub Takes : (Stretch → Stretch → Type 0) → List Stretch → ℕ → ℕ → Option (ℕ × ℕ) → Type 0
-Takes Prior gs size grain None = All (λ g. Holds g size grain → ⊥) gs
+Takes Prior gs size grain None = Every (λ g. Holds g size grain → ⊥) gs
 Takes Prior gs size grain (Some a) =
-    Any (λ g. Holds g size grain × (a ≡ answer_from g size grain) × All (λ h. Holds h size grain → Prior g h) gs) gs
+    Any (λ g. Holds g size grain × (a ≡ answer_from g size grain) × Every (λ h. Holds h size grain → Prior g h) gs) gs
 
 -- first fit prefers the gap that starts lower
 abbrev pub Lower : Stretch → Stretch → Type 0

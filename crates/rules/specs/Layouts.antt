@@ -1,6 +1,6 @@
 -- The banks of a sheet on a fabric, and where all of its objects lie.
 use Rattle.std.specs.Prelude.{◌≡◌, ℕ, ◌+◌, ◌^◌, ◌<◌, ◌≤◌, Bool, true, false, ◌&&◌, Some, None, filter, nat_lt}
-use Rattle.rules.specs.Lists.{All, numbers_from}
+use Rattle.rules.specs.Lists.{Every, numbers_from}
 use Rattle.rules.specs.Stretches.{OnGrain}
 use Rattle.rules.specs.Fitting.{Rule, OnTheTable}
 use Rattle.rules.specs.Fabrics.{Meaning, Homely, OfOneOrTwo, member}
@@ -18,7 +18,7 @@ pub record Lawful (m : Meaning) : Type 0 where
 
 -- every actor's core is one of the fabric's
 abbrev pub RunsOn : Sheet → Meaning → Type 0
-RunsOn s m = All (λ a. a.core < m.cores) s.actors
+RunsOn s m = Every (λ a. a.core < m.cores) s.actors
 
 -- a sheet that can be placed on a fabric: all numbers are in range, and the fabric has every core
 pub record Placeable (s : Sheet) (m : Meaning) : Type 0 where

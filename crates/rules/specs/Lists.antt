@@ -1,7 +1,7 @@
 -- Small words on lists and numbers that the rules are written with.
 use Rattle.std.specs.Prelude.{◌≡◌, ℕ, zero, suc, ◌+◌, ◌<◌, ◌≤◌, ◌⊎◌, List, [], ◌∷◌}
--- `All P xs`: P holds of every one of the list
-pub use Rattle.std.specs.List.{AllByRecursion as All}
+-- `Every P xs`: P holds of every one of the list
+pub use Rattle.std.specs.List.{AllByRecursion as Every}
 
 infix 40 ◌∈◌
 -- P holds of some one of the list
@@ -26,7 +26,7 @@ pub record Lowest (P : ℕ → Type 0) (a : ℕ) : Type 0 where
 -- each number is below all that follow it
 abbrev pub AscendingNumbers : List ℕ → Type 0
 AscendingNumbers [] = Unit {0}
-AscendingNumbers (a ∷ rest) = All (λ b. a < b) rest × AscendingNumbers rest
+AscendingNumbers (a ∷ rest) = Every (λ b. a < b) rest × AscendingNumbers rest
 
 -- the numbers from `from` on, as many as `count`
 abbrev pub numbers_from : ℕ → ℕ → List ℕ

@@ -1,6 +1,6 @@
 -- When objects are live, and the run that shows objects live together.
 use Rattle.std.specs.Prelude.{◌≡◌, ℕ, ◌<◌, true, false, ◌⊎◌, ◌↔◌, List, [], ◌∷◌, ◌++◌, map}
-use Rattle.rules.specs.Lists.{All, ◌∈◌, Lowest, AscendingNumbers}
+use Rattle.rules.specs.Lists.{Every, ◌∈◌, Lowest, AscendingNumbers}
 use Rattle.rules.specs.Sheets.{Sheet}
 use Rattle.rules.specs.Order.{Before}
 use Rattle.rules.specs.Objects.{object_count, first, last, always_live}
@@ -14,10 +14,10 @@ pub record Live (s : Sheet) (st : State) (x : ℕ) : Type 0 where
 -- some list of starts and finishes leaves all of the objects live
 pub record Together (s : Sheet) (xs : List ℕ) : Type 0 where
   pub calls : List Call
-  pub fires : All Fires calls
+  pub fires : Every Fires calls
   pub state : State
   pub reached : Reached s calls state
-  pub live : All (Live s state) xs
+  pub live : Every (Live s state) xs
 
 -- a is the first actor of one of the objects, which is not always live
 pub record Opener (s : Sheet) (xs : List ℕ) (a : ℕ) : Type 0 where

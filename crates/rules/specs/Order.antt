@@ -2,7 +2,7 @@
 use Rattle.std.specs.Prelude.{◌≡◌, ℕ, ◌<◌, ◌⊎◌, List, [], ◌∷◌}
 use Rattle.rules.specs.declared.sheet.Link.{Link}
 use Rattle.rules.specs.declared.sheet.Link.TheVariants.{Plain, Delayed, Ordered}
-use Rattle.rules.specs.Lists.{◌∈◌, All}
+use Rattle.rules.specs.Lists.{◌∈◌, Every}
 use Rattle.rules.specs.Sheets.{Sheet, actor_count}
 
 -- a chain of one or more steps of R leads from a to b
@@ -33,7 +33,7 @@ Ends count (Ordered q) = (q.first < count) × (q.second < count)
 
 -- a sheet whose order can be kept: links join its actors, and no actor is before itself
 pub record OrderedSheet (s : Sheet) : Type 0 where
-  pub ends : All (Ends (actor_count s)) s.links
+  pub ends : Every (Ends (actor_count s)) s.links
   pub no_circle : (a : ℕ) → Before s a a → ⊥
 
 -- x is a, or before it by the pairs

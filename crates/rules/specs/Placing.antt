@@ -3,7 +3,7 @@
 use Rattle.std.specs.Prelude.{◌≡◌, ℕ, ◌+◌, ◌^◌, ◌<◌, ◌≤◌, ◌⊎◌, List, [], ◌∷◌, length, Some, None, Option}
 use Rattle.std.specs.Option.{option_map}
 use Rattle.rules.specs.declared.memory.Stretch.{Stretch}
-use Rattle.rules.specs.Lists.{◌∈◌, All}
+use Rattle.rules.specs.Lists.{◌∈◌, Every}
 use Rattle.rules.specs.Stretches.{Gaps}
 use Rattle.rules.specs.Fitting.{Rule, OnTheTable}
 
@@ -73,4 +73,4 @@ pub record Footprint (bank : Bank) (places : Places) (f : ℕ) : Type 0 where
 -- a list in which every two exclude each other: each excludes all that follow it
 abbrev pub EachExcludesTheRest : Bank → List ℕ → Type 0
 EachExcludesTheRest bank [] = Unit {0}
-EachExcludesTheRest bank (x ∷ xs) = All (bank.Excludes x) xs × EachExcludesTheRest bank xs
+EachExcludesTheRest bank (x ∷ xs) = Every (bank.Excludes x) xs × EachExcludesTheRest bank xs

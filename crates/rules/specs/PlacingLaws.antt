@@ -2,7 +2,7 @@
 use Rattle.std.specs.Prelude.{◌≡◌, ℕ, ◌^◌, ◌<◌, ◌≤◌, ◌⊎◌, ◌↔◌, List, Option}
 use Rattle.rules.specs.declared.memory.Stretch.{Stretch}
 use Rattle.rules.specs.declared.sheet.Machine.{Machine}
-use Rattle.rules.specs.Lists.{◌∈◌, All, total}
+use Rattle.rules.specs.Lists.{◌∈◌, Every, total}
 use Rattle.rules.specs.Stretches.{Gaps, Blocked, Maximal, rounded_up, OnGrain}
 use Rattle.rules.specs.Fitting.{Rule, IsFitRule, Proper, IsFirstFit, IsBestFit, Takes, Lower, Tighter, low, snug}
 use Rattle.rules.specs.Fabrics.{Meaning, fabric_of}
@@ -92,7 +92,7 @@ FootprintsExistOnce = (s : Sheet) (m : Meaning) (places : Layout) (b : ℕ) → 
 -- a footprint is at least the sizes of objects of the bank that exclude one another
 abbrev pub AtLeastAnyClique : Sheet → Meaning → Layout → ℕ → ℕ → Type 0
 AtLeastAnyClique s m places b f =
-    (xs : List ℕ) → All (λ x. x ∈ (bank_of s m b).objects) xs → EachExcludesTheRest (bank_of s m b) xs → total (size s) xs ≤ f
+    (xs : List ℕ) → Every (λ x. x ∈ (bank_of s m b).objects) xs → EachExcludesTheRest (bank_of s m b) xs → total (size s) xs ≤ f
 
 -- and at most the sizes of all its objects, each rounded up to the grain
 abbrev pub AtMostTheRoundedSizes : Sheet → Meaning → ℕ → ℕ → Type 0

@@ -1,6 +1,6 @@
 -- The laws of runs.
 use Rattle.std.specs.Prelude.{◌≡◌, ℕ, ◌<◌, ◌≢◌, ◌⊎◌, ◌↔◌, List, [], ◌∷◌, length}
-use Rattle.rules.specs.Lists.{All}
+use Rattle.rules.specs.Lists.{Every}
 use Rattle.rules.specs.Sheets.{Sheet, actor_count}
 use Rattle.rules.specs.Order.{OrderedSheet}
 use Rattle.rules.specs.Objects.{object_count}
@@ -55,17 +55,17 @@ ExclusionIsExact = (s : Sheet) → OrderedSheet s → (x y : ℕ) → x ≢ y �
 -- the same of any number of objects
 abbrev pub ExclusionIsExactForAll : Type 0
 ExclusionIsExactForAll =
-    (s : Sheet) → OrderedSheet s → (xs : List ℕ) → All (λ x. x < object_count s) xs → AllExclude s xs ↔ Together s xs
+    (s : Sheet) → OrderedSheet s → (xs : List ℕ) → Every (λ x. x < object_count s) xs → AllExclude s xs ↔ Together s xs
 
 -- the one witness of a list of objects: starts and finishes, all granted; it leaves all live exactly when all exclude each other
 pub record Shown (s : Sheet) (xs : List ℕ) : Type 0 where
   pub calls : List Call
   pub witness : Witness s xs calls
   pub only : (others : List Call) → Witness s xs others → others ≡ calls
-  pub fires : All Fires calls
+  pub fires : Every Fires calls
   pub state : State
   pub all_granted : Grants s (fresh s) calls state
-  pub live : AllExclude s xs ↔ All (Live s state) xs
+  pub live : AllExclude s xs ↔ Every (Live s state) xs
 
 abbrev pub WitnessShows : Type 0
-WitnessShows = (s : Sheet) → OrderedSheet s → (xs : List ℕ) → All (λ x. x < object_count s) xs → Shown s xs
+WitnessShows = (s : Sheet) → OrderedSheet s → (xs : List ℕ) → Every (λ x. x < object_count s) xs → Shown s xs

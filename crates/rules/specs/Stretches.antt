@@ -1,7 +1,7 @@
 -- Stretches of bytes, the gaps of a bank, and rounding up to the grain.
 use Rattle.std.specs.Prelude.{◌≡◌, ℕ, ◌+◌, ◌-◌, ◌*◌, ◌/◌, ◌<◌, ◌≤◌, ◌↔◌, List, [], ◌∷◌}
 use Rattle.rules.specs.declared.memory.Stretch.{Stretch}
-pub use Rattle.rules.specs.Lists.{All, Any, ◌∈◌}
+pub use Rattle.rules.specs.Lists.{Every, Any, ◌∈◌}
 
 -- the byte b is in the stretch
 abbrev pub Covers : Stretch → ℕ → Type 0
@@ -10,12 +10,12 @@ Covers s b = (s.start ≤ b) × (b < s.end)
 -- ascending, and at least one byte lies between any two
 abbrev pub Spaced : List Stretch → Type 0
 Spaced [] = Unit {0}
-Spaced (g ∷ gs) = All (λ h. g.end < h.start) gs × Spaced gs
+Spaced (g ∷ gs) = Every (λ h. g.end < h.start) gs × Spaced gs
 
 -- gs are the gaps below the capacity that the taken bytes leave
 pub record Gaps (capacity : ℕ) (Taken : ℕ → Type 0) (gs : List Stretch) : Type 0 where
   pub spaced : Spaced gs
-  pub each : All (λ g. (g.start < g.end) × (g.end ≤ capacity)) gs
+  pub each : Every (λ g. (g.start < g.end) × (g.end ≤ capacity)) gs
   pub exactly : (b : ℕ) → b < capacity → Any (λ g. Covers g b) gs ↔ (Taken b → ⊥)
 
 -- a byte that one of the blocked stretches covers
