@@ -1,7 +1,9 @@
 // What the fabrics of the sheet mean.
 ghost use Rattle.rules.specs.Fabrics.{hybrid, separate, unified};
 ghost use Rattle.fabric.specs.Homes.{unified_homely, separate_homely, hybrid_homely};
-ghost use Rattle.std.proofs.Common.{rules, arith};
+ghost use Rattle.std.specs.Prelude.{◌^◌, ◌<◌, ◌==◌};
+ghost use Rattle.std.proofs.Common.{lit≤, le_refl, add-le-add};
+ghost use Rattle.std.proofs.lemmas.Bool.{cond_both};
 
 use crate::boards::{HybridBanks, PrivateBanks, SharedBank};
 use crate::fabric::Fabric;
@@ -14,11 +16,11 @@ impl Fabric for SharedBank {
 
     ghost means = { λ f. unified f.cores f.capacity };
 
-    ghost few = { first_of (Prim.search rules, Prim.grind (arith, Self.row.coded.inj)) };
+    ghost few = { lit≤ tt };
 
-    ghost within = { first_of (Prim.search rules, Prim.grind (arith, Self.row.coded.inj)) };
+    ghost within = { λ f. lit≤ tt };
 
-    ghost fits = { first_of (Prim.search rules, Prim.grind (arith, Self.row.coded.inj)) };
+    ghost fits = { λ f bank below. f.fits };
 
     ghost homely = { λ f touching set. unified_homely f.cores touching set f.capacity };
 
@@ -54,11 +56,11 @@ impl Fabric for PrivateBanks {
 
     ghost means = { λ f. separate f.cores f.capacity };
 
-    ghost few = { first_of (Prim.search rules, Prim.grind (arith, Self.row.coded.inj)) };
+    ghost few = { lit≤ tt };
 
-    ghost within = { first_of (Prim.search rules, Prim.grind (arith, Self.row.coded.inj)) };
+    ghost within = { λ f. f.few };
 
-    ghost fits = { first_of (Prim.search rules, Prim.grind (arith, Self.row.coded.inj)) };
+    ghost fits = { λ f bank below. f.fits };
 
     ghost homely = { λ f touching set. separate_homely f.cores touching set f.capacity };
 
@@ -94,11 +96,11 @@ impl Fabric for HybridBanks {
 
     ghost means = { λ f. hybrid f.cores f.shared f.private };
 
-    ghost few = { first_of (Prim.search rules, Prim.grind (arith, Self.row.coded.inj)) };
+    ghost few = { lit≤ tt };
 
-    ghost within = { first_of (Prim.search rules, Prim.grind (arith, Self.row.coded.inj)) };
+    ghost within = { λ f. add-le-add f.few (le_refl 1) };
 
-    ghost fits = { first_of (Prim.search rules, Prim.grind (arith, Self.row.coded.inj)) };
+    ghost fits = { λ f bank below. cond_both (bank == 0) f.shared f.private (λ n. n < 2 ^ 32) (λ e. f.fits.0) (λ e. f.fits.1) };
 
     ghost homely = { λ f touching set. hybrid_homely f.cores touching set f.shared f.private };
 

@@ -1,10 +1,11 @@
 // The fabric of a sheet.
-ghost use Rattle.std.specs.Prelude.{◌≡◌, ◌≤◌, min};
+ghost use Rattle.std.specs.Prelude.{◌≡◌, ◌^◌, ◌<◌, ◌≤◌, ◌==◌, min};
 ghost use Rattle.rules.specs.Fabrics.{by_kind, fabric_of};
 ghost use Rattle.fabric.specs.Sheets.{sheet_means};
 ghost use Rattle.fabric.specs.declared.boards.SheetFabric.TheVariants.{Unified, Private, Hybrid};
 ghost use Rattle.fabric.specs.Homes.{hybrid_homely, separate_homely, unified_homely};
-ghost use Rattle.std.proofs.Common.{rules};
+ghost use Rattle.std.proofs.Common.{lit≤, le_refl, le_trans, add-le-add};
+ghost use Rattle.std.proofs.lemmas.Bool.{cond_both};
 
 use crate::boards::{HybridBanks, PrivateBanks, SharedBank, SheetFabric};
 use crate::fabric::Fabric;
@@ -38,11 +39,19 @@ impl Fabric for SheetFabric {
 
     ghost means = { sheet_means };
 
-    ghost few = { Prim.search rules };
+    ghost few = { lit≤ tt };
 
-    ghost within = { Prim.search rules };
+    ghost within = { elim [
+      | Unified f ↦ lit≤ tt
+      | Private f ↦ le_trans f.few (lit≤ tt)
+      | Hybrid f ↦ add-le-add f.few (le_refl 1)
+    ] };
 
-    ghost fits = { Prim.search rules };
+    ghost fits = { elim [
+      | Unified f ↦ λ bank below. f.fits
+      | Private f ↦ λ bank below. f.fits
+      | Hybrid f ↦ λ bank below. cond_both (bank == 0) f.shared f.private (λ n. n < 2 ^ 32) (λ e. f.fits.0) (λ e. f.fits.1)
+    ] };
 
     ghost homely = { elim [
       | Unified f ↦ λ touching set. unified_homely f.cores touching set f.capacity

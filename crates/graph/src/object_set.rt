@@ -2,7 +2,6 @@
 
 ghost use Rattle.std.specs.Prelude.{◌≡◌, ℕ, ◌<◌, ◌≤◌, vec_len};
 ghost use Rattle.graph.specs.Sizes.{size_at};
-ghost use Rattle.std.proofs.Common.{rules, arith};
 
 use crate::sheet_graph::Graph;
 use words::pair;
@@ -39,11 +38,11 @@ impl ObjectSet for Graph {
 
     ghost sizes = { λ g. size_at g.sheet.objects.list.items };
 
-    ghost few = { first_of (Prim.search rules, Prim.grind (arith, Self.row.coded.inj)) };
+    ghost few = { λ g. g.sheet.objects.few };
 
-    ghost filled = { first_of (Prim.search rules, Prim.grind (arith, Self.row.coded.inj)) };
+    ghost filled = { λ g. g.sheet.objects.filled };
 
-    ghost small = { first_of (Prim.search rules, Prim.grind (arith, Self.row.coded.inj)) };
+    ghost small = { λ g. g.sheet.objects.small };
 
     fn len(&self) -> u32 {
         self.sheet.objects.len() as u32
