@@ -1,3 +1,5 @@
+mod Ascents
 pub mod Asked
 mod Keeping
+mod Outcomes
 mod Steps

@@ -1,7 +1,9 @@
 // Fit rules: where an object goes among the gaps of a bank.
 #![tactic(auto)]
 
+mod asking;
 mod best;
+mod faults;
 mod first;
 mod laws;
 mod layers;
@@ -11,7 +13,9 @@ mod question;
 mod rule;
 mod sheet;
 
+pub use asking::{MOST_SIZE, ask};
 pub use best::BestFit;
+pub use faults::AskFault;
 pub use first::FirstFit;
 pub use laws::{best_fit_takes_the_tightest, first_fit_takes_the_lowest};
 pub use layers::{Low, Snug};

@@ -6,4 +6,6 @@ mod faults;
 #[cfg(test)]
 mod maps;
 #[cfg(test)]
+mod owned;
+#[cfg(test)]
 mod printing;

@@ -1,0 +1,4 @@
+pub mod Lasting
+pub mod Twins
+pub mod Reached
+pub mod Highest

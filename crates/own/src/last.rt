@@ -1,0 +1,28 @@
+// Last fit.
+ghost use Rattle.own.specs.Lasting.{IsLastFit, last_of};
+ghost use Rattle.own.specs.Highest.{last_fit_is_a_fit_rule};
+
+use fit::{FitRule, Question, place_in};
+
+// Takes the highest gap that holds the object.
+#[derive(Clone, Copy)]
+pub struct LastFit;
+
+impl FitRule for LastFit {
+    ghost answers = { λ _. last_of };
+
+    ghost lawful = { λ r. last_fit_is_a_fit_rule };
+
+    fn fit(&self, q: Question<'_>) -> Option<(u32, u32)> {
+        let mut last = None;
+        for gap in q.gaps {
+            last = place_in(*gap, q.size, q.grain).or(last);
+        }
+        last
+    }
+}
+
+// Last fit takes the highest gap that holds the object.
+pub fn last_fit_takes_the_highest()
+    ensures { IsLastFit last_of }
+{}
