@@ -1,3 +1,14 @@
-mod Ascents
+mod Sweeps
 mod Asked
-mod Writes
+mod Blocks
+mod Lookups
+mod Turning
+mod Ends
+mod TurnOrders
+mod Gathers
+mod Moved
+mod Tables
+pub mod Whole
+mod Nexts
+mod Alike
+pub mod OnSheets

@@ -2,6 +2,9 @@
 #![tactic(auto)]
 
 pub mod faults;
-pub mod map;
-mod output;
+pub mod leaning;
+pub mod mapping;
 pub mod plan;
+pub mod planning;
+pub mod questions;
+pub mod running;

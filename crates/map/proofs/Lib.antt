@@ -1,0 +1,4 @@
+mod Joins
+mod Rows
+mod Fields
+pub mod OnSheets

@@ -1,0 +1,6 @@
+// The printed map of a layout.
+#![tactic(auto)]
+
+pub mod lengths;
+mod output;
+pub mod writing;

@@ -1,0 +1,7 @@
+mod OfGraph
+mod Placings
+mod Joined
+mod Owned
+mod Replying
+mod Printing
+mod FaultLines
