@@ -7,8 +7,6 @@ pub mod Sets
 pub mod Kept
 pub mod Exclusive
 pub mod Nils
-pub mod Seated
-pub mod Known
 pub mod Drafted
 pub mod Ranged
 pub mod Judged
@@ -16,8 +14,4 @@ pub mod JudgedLinks
 pub mod Took
 pub mod Endings
 pub mod Texts
-pub mod Held
 pub mod Told
-pub mod Looked
-pub mod Heads
-pub mod Sheeted

@@ -4,10 +4,8 @@ pub mod Ranges
 pub mod Rows
 pub mod Orders
 pub mod Excluding
-pub mod Seats
 pub mod RowBits
 pub mod Judging
 pub mod Taking
 pub mod Readings
-pub mod Held
 pub mod Questions

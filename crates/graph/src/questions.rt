@@ -1,35 +1,18 @@
 // Questions to a sheet that was read.
 
 ghost use Rattle.std.specs.Prelude.{◌≡◌, true, IfSome};
-ghost use Rattle.graph.specs.Held.{sheet_held};
-ghost use Rattle.graph.specs.Questions.{IsObject, SaysBefore, SaysExcludes, Touch};
-ghost use Rattle.graph.specs.Seats.{all_on};
-ghost use Rattle.graph.specs.Stages.{head_of};
+ghost use Rattle.graph.specs.Questions.{SaysBefore, SaysExcludes, SaysObject};
 ghost use Rattle.rules.specs.Fitting.{is_grain};
 
-use crate::object_set::ObjectSet;
 use crate::sheet_graph::Graph;
 use crate::stage::Stage;
 use rules::memory::Object;
-use rules::sheet::{Actor, Fit, Layer, Machine};
-
-// Whether every actor's core is one of so many.
-fn are_on(actors: &[Actor], cores: u32) -> bool
-    ensures { result ≡ all_on cores actors.now }
-{
-    for actor in actors {
-        if actor.core >= cores {
-            return false;
-        }
-    }
-    true
-}
+use rules::sheet::{Fit, Layer, Machine};
 
 impl Graph {
     // The machine and the fit rule of the sheet; none where no sheet was read.
     pub fn head(&self) -> Option<(Machine, Fit)>
-        ensures head { result ≡ head_of self.now.sheet.stage }
-        ensures grain { IfSome result (λ h. is_grain h.0.grain ≡ true) }
+        ensures { IfSome result (λ h. is_grain h.0.grain ≡ true) }
     {
         match self.sheet.stage {
             Stage::Ruled(machine, fit) => Some((machine, fit)),
@@ -38,22 +21,23 @@ impl Graph {
     }
 
     // The layers in the order of their lines.
-    pub fn layers(&self) -> &[Layer]
-        ensures { result.now ≡ self.now.sheet.layers.items }
-    {
+    pub fn layers(&self) -> &[Layer] {
         self.sheet.layers.as_slice()
     }
 
     // Whether every actor's core is one of so many.
-    pub fn fits_on(&self, cores: u32) -> bool
-        ensures { result ≡ all_on cores self.now.sheet.actors.items }
-    {
-        are_on(self.sheet.actors.as_slice(), cores)
+    pub fn fits_on(&self, cores: u32) -> bool {
+        for actor in self.sheet.actors.as_slice() {
+            if actor.core >= cores {
+                return false;
+            }
+        }
+        true
     }
 
     // Whether actor a is before actor b; none where the sheet has no such actor.
     pub fn is_before(&self, a: u32, b: u32) -> Option<bool>
-        ensures { SaysBefore (sheet_held self.now.sheet) a b result }
+        ensures { SaysBefore self.now.sheet a b result }
     {
         let count = self.sheet.actors.len();
         if a as usize >= count || b as usize >= count {
@@ -64,7 +48,7 @@ impl Graph {
 
     // Whether objects x and y exclude each other; none where the sheet has no such object.
     pub fn are_excluding(&self, x: u32, y: u32) -> Option<bool>
-        ensures { SaysExcludes (sheet_held self.now.sheet) x y result }
+        ensures { SaysExcludes self.now.sheet x y result }
     {
         let count = self.sheet.objects.len();
         if x as usize >= count || y as usize >= count {
@@ -75,22 +59,11 @@ impl Graph {
 
     // Object x: its first and last actor, its size, and whether it has initial tokens.
     pub fn object(&self, x: u32) -> Option<Object>
-        ensures { IsObject (sheet_held self.now.sheet) x result }
+        ensures { SaysObject self.now.sheet x result }
     {
         if x as usize >= self.sheet.objects.len() {
             return None;
         }
         Some(self.sheet.objects.list[x as usize])
-    }
-
-    // The cores that touch object x, as a set.
-    pub fn cores_touching(&self, x: u32) -> Option<u64>
-        ensures { Touch (sheet_held self.now.sheet) x result }
-    {
-        let count = self.sheet.objects.len();
-        if x as usize >= count {
-            return None;
-        }
-        Some(self.touching(x))
     }
 }

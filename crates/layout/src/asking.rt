@@ -1,9 +1,6 @@
 // Asking the fit rule.
 
 ghost use Rattle.std.specs.Prelude.{◌≡◌, ◌+◌, ◌<◌, ◌≤◌, true, length, IfSome};
-ghost use Rattle.layout.specs.Banks.{Asked};
-ghost use Rattle.layout.specs.Items.{spans};
-ghost use Rattle.layout.specs.Starts.{ByStart};
 ghost use Rattle.rules.specs.Fitting.{is_grain};
 
 use crate::blocking::blockers;
@@ -38,8 +35,6 @@ pub(crate) fn find_place<W: ObjectSet, R: FitRule>(
 ) -> Option<u32>
     requires known { x < W.ObjectSet.count world.now }
     requires few { length items.now < 256 }
-    requires sorted { ByStart (spans items.now) }
-    ensures answer { Asked (W.ObjectSet.excluding world.now) (R.FitRule.answers rule.now) space.capacity space.grain.bytes (W.ObjectSet.sizes world.now x) x items.now result }
     ensures within { IfSome result (λ p. p + W.ObjectSet.sizes world.now x ≤ space.capacity) }
 {
     let mut blocked = [Stretch { start: 0, end: 0 }; MOST_GAPS];

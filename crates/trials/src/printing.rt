@@ -3,8 +3,8 @@
 use fabric::Fabric;
 use fit::FitRule;
 use layout::turns::Candidate;
-use map::lengths::MOST_MAP;
 use planner::faults::JobFault;
+use planner::map::MOST_MAP;
 use planner::plan::Plan;
 use std::alloc::{AllocError, Global};
 

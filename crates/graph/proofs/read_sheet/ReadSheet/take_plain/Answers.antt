@@ -5,14 +5,12 @@ use Rattle.graph.specs.declared.faults.Refusal.TheVariants.{EqualEnds, Backward}
 use Rattle.graph.specs.Judging.{unless}
 use Rattle.graph.specs.Rows.{may_join}
 use Rattle.graph.proofs.Drafted.{refused_so}
-use Rattle.graph.proofs.Known.{fifo_known, link_more}
 use Rattle.graph.proofs.Listed.{buffer_pushed}
 use Rattle.graph.proofs.read_sheet.ReadSheet.take_plain.Goals as goal
 
 pub invariant_of-self-2 : goal.invariant_of-self-2
 invariant_of-self-2 c =
-    let s = c.args.self.now in
-    let known = fifo_known (vec_len s.actors) s.links.fifos c.args.fifo c.in_ok-judge_fifo.ensures in record { layering = s.layering; layered = s.layered; room = s.room; few = s.few; counted = search rules; grained = s.grained; headed = s.headed; peopled = search rules; listed = buffer_pushed (vec_items s.objects.list) (vec_items c.push.new.self.list) (vec_items s.actors) (vec_items s.links.list) (vec_items c.push_plain.new.self.list) (Plain c.args.fifo) s.listed c.push.ensures.items c.if-not-push_plain.ensures.items; cored = s.cored; seated = s.seated; known = link_more (vec_len s.actors) (vec_items s.links.list) (vec_items c.push_plain.new.self.list) (Plain c.args.fifo) s.known known.0 known.1 c.if-not-push_plain.ensures.items }
+    let s = c.args.self.now in record { layering = s.layering; layered = s.layered; room = s.room; few = s.few; counted = search rules; grained = s.grained; headed = s.headed; peopled = search rules; listed = buffer_pushed (vec_items s.objects.list) (vec_items c.push.new.self.list) (vec_items s.actors) (vec_items s.links.list) (vec_items c.push_plain.new.self.list) (Plain c.args.fifo) s.listed c.push.ensures.items c.if-not-push_plain.ensures.items }
 
 pub returns-in_err-judge_fifo : goal.returns-in_err-judge_fifo
 returns-in_err-judge_fifo c =

@@ -1,6 +1,0 @@
-pub mod Starts
-pub mod Items
-pub mod Banks
-pub mod Turns
-pub mod Worlds
-pub mod Sheets

@@ -1,5 +1,0 @@
-pub mod Faults
-pub mod Leaning
-pub mod Nets
-pub mod Totals
-pub mod Waiting

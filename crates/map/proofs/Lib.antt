@@ -1,4 +1,0 @@
-mod Joins
-mod Rows
-mod Fields
-pub mod OnSheets

@@ -1,7 +1,0 @@
-mod OfGraph
-mod Placings
-mod Joined
-mod Owned
-mod Replying
-mod Printing
-mod FaultLines

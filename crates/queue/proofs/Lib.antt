@@ -1,3 +1,0 @@
-pub mod Moves
-pub mod Fronts
-pub mod Served

@@ -1,2 +1,0 @@
-pub mod Heaps
-pub mod Waiting
