@@ -18,6 +18,7 @@ HEAD = re.compile(rf"^(?P<indent>\s*)(?P<mods>{MODS})(?P<name>{WORD})(?P<params>
 QUIET = re.compile(r'"(?:[^"\\\n]|\\.)*"|(?<!\S)--[^\n]*', re.S)
 RUST_QUIET = re.compile(r"""//[^\n]*|b?"(?:[^"\\]|\\.)*"|b?'(?:\\.|[^'\\\n])'""", re.S)
 TOKEN = re.compile(WORD)
+PATH = re.compile(r"\buse [^\s{]+(?:\.(?=\{)|(?= as )|(?=\n))")
 IMPORT = re.compile(r"\buse (?:Rattle\.std|borrow|Prim)\.[^{;\n]*\{([^}]*)\}")
 KEYWORDS = {"let", "elim", "where", "in", "module", "use", "pub", "open", "_"}
 
@@ -88,7 +89,8 @@ def table(root):
 
 
 def words(path):
-    return set(TOKEN.findall(QUIET.sub(" ", read(path))))
+    """The words of a file, but for those of the module paths that it imports from: a module may have the name of a lemma."""
+    return set(TOKEN.findall(PATH.sub(" ", QUIET.sub(" ", read(path)))))
 
 
 def falls_together(root, turned):
