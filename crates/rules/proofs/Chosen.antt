@@ -7,7 +7,7 @@ use Rattle.rules.specs.declared.memory.Stretch.{Stretch}
 use Rattle.rules.specs.Stretches.{Every, ◌∈◌}
 use Rattle.rules.specs.Fitting.{place_in, Holds, answer_from, Ascending, Proper, Takes, Lower, Tighter, width, IsFirstFit, IsBestFit}
 use Rattle.rules.proofs.Members.{any_weaker, any_at}
-use Rattle.rules.proofs.Choosing.{first_of, best_from, taken, best_of}
+use Rattle.rules.specs.Choosing.{first_of, best_from, taken, best_of}
 
 -- whether a gap holds the size
 abbrev fits : ℕ → ℕ → Stretch → Bool

@@ -7,7 +7,7 @@ use Rattle.rules.specs.Fitting.{Rule, Proper, IsFirstFit, IsBestFit, asks_first,
 use Rattle.rules.proofs.Questions.{proper_from_tests}
 use Rattle.rules.proofs.Layers.{kept_proper}
 use Rattle.rules.proofs.Preferred.{first_and_best_fit}
-use Rattle.rules.proofs.Choosing.{first_of, best_of}
+use Rattle.rules.specs.Choosing.{first_of, best_of}
 use Rattle.rules.proofs.Chosen.{first_takes_the_lowest, best_takes_the_tightest}
 
 -- whether a question is proper

@@ -51,7 +51,6 @@ pub mod Validity
 pub mod Faulted
 pub mod Leanest
 pub mod Peaks
-pub mod Choosing
 pub mod Chosen
 pub mod FitChecks
 pub mod Checking

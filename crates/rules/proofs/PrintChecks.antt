@@ -10,7 +10,7 @@ use Rattle.rules.specs.Maps.{map_text}
 use Rattle.rules.specs.Reading.{Outcome, accepted, Gives}
 use Rattle.rules.specs.Refusals.{Named, OwnRule, fault_line, of_placing, Prints, as_map, without_room}
 use Rattle.rules.proofs.Readers.{gives_some, outcome}
-use Rattle.rules.proofs.Choosing.{first_of}
+use Rattle.rules.specs.Choosing.{first_of}
 use Rattle.rules.proofs.Chosen.{first_takes_the_lowest}
 use Rattle.rules.proofs.ExclusionChecks.{exclusions_are}
 use Rattle.rules.proofs.MapChecks.{at_homes, is_laid_out, has_footprints, has_no_room, map_so, no_room_so}

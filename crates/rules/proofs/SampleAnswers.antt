@@ -5,7 +5,7 @@ use Rattle.rules.specs.Stretches.{rounded_up}
 use Rattle.rules.specs.Fitting.{Proper, low, snug, is_snug, ends_below}
 use Rattle.rules.specs.Samples.{three_gaps, off_grain_gaps, roomy_and_snug, equal_gaps}
 use Rattle.rules.specs.Examples.{ByFirst, ByBest}
-use Rattle.rules.proofs.Choosing.{first_of, best_of}
+use Rattle.rules.specs.Choosing.{first_of, best_of}
 use Rattle.rules.proofs.FitChecks.{is_proper, proper_by_test, one_first, one_best, layer_alike}
 
 -- a first fit answers what first_of answers

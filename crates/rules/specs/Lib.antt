@@ -6,6 +6,7 @@ pub mod Objects
 pub mod Exclusion
 pub mod Stretches
 pub mod Fitting
+pub mod Choosing
 pub mod Fabrics
 pub mod Drafts
 pub mod Reading

@@ -3,6 +3,7 @@
 
 pub mod examples;
 pub mod lean_laws;
+pub mod letters;
 pub mod memory;
 pub mod order_laws;
 pub mod placing_laws;

@@ -4,7 +4,7 @@ ghost use Rattle.std.specs.Prelude.{◌≡◌};
 ghost use Rattle.rules.specs.Fitting.{is_grain};
 
 // The bytes from `start` up to, but not including, `end`.
-#[derive(Clone, Copy)]
+#[derive(Clone, Copy, Debug, Default, PartialEq, Eq)]
 pub struct Stretch {
     pub start: u32,
     pub end: u32,
@@ -12,7 +12,7 @@ pub struct Stretch {
 
 // A memory object. The producer and consumer of a working area are its own actor.
 // One that is delayed, a FIFO with initial tokens, is always live.
-#[derive(Clone, Copy)]
+#[derive(Clone, Copy, Debug, PartialEq, Eq)]
 pub struct Object {
     pub producer: u32,
     pub consumer: u32,

@@ -3,15 +3,11 @@
 ghost use Rattle.rules.specs.Promises.{SoundLayoutsNeverClash, TheWholePromise};
 
 // A sound layout never has a clash, however its places were found.
-pub fn sound_layouts_never_clash() -> u8
+pub fn sound_layouts_never_clash()
     ensures { SoundLayoutsNeverClash }
-{
-    0
-}
+{}
 
 // Under any fit rule and any fabric, what is live together shares no byte and is in reach, exclusion is exact, and footprints are bounded.
-pub fn the_whole_promise() -> u8
+pub fn the_whole_promise()
     ensures { TheWholePromise }
-{
-    0
-}
+{}
