@@ -3,7 +3,7 @@ use Rattle.std.specs.Prelude.{◌≡◌, ℕ, ◌<◌, Bool, true, false, cond, 
 use Rattle.std.proofs.Common.{sym, ◌∙◌, arith}
 use Rattle.std.proofs.lemmas.Bool.{eqb-true, lt-ltb}
 use Rattle.rules.specs.Fabrics.{Homely, OfOneOrTwo, member}
-use Rattle.rules.proofs.Digits.{member_pow}
+use Rattle.words.proofs.Bits.{bit_pow}
 use Rattle.rules.proofs.Homes.{unified_homely}
 use Rattle.own.specs.Twins.{twin}
 
@@ -15,8 +15,8 @@ pub record Sole (homes : ℕ) : Type 0 where
   pub alone : (b : ℕ) → member homes b ≡ true → home ≡ b
 
 sole : (lone : Bool) → Sole (cond lone 1 2)
-sole true = record { home = 0; set = refl; known = omega arith; alone = λ b m. eqb-true 0 b (sym (member_pow 0 b) ∙ m) }
-sole false = record { home = 1; set = refl; known = omega arith; alone = λ b m. eqb-true 1 b (sym (member_pow 1 b) ∙ m) }
+sole true = record { home = 0; set = refl; known = omega arith; alone = λ b m. eqb-true 0 b (sym (bit_pow 0 b) ∙ m) }
+sole false = record { home = 1; set = refl; known = omega arith; alone = λ b m. eqb-true 1 b (sym (bit_pow 1 b) ∙ m) }
 
 pub twin_homely : (cores lone joint touching : ℕ) → OfOneOrTwo cores touching → Homely (twin cores lone joint) touching
 twin_homely cores lone joint touching set =

@@ -5,7 +5,7 @@ use Rattle.rules.specs.declared.sheet.Kind.TheVariants.{Unified, Private, Hybrid
 use lib.Count.{ones}
 use Rattle.std.proofs.lemmas.Nat.{or_lt, pow_below}
 use Rattle.std.proofs.lemmas.Bool.{both_ways, cond_both, cases_lt, eq-eqb, eqb-true, or_left, or_right}
-use Rattle.rules.proofs.Digits.{member_high, member_or, member_pow, member_suc, member_even}
+use Rattle.words.proofs.Bits.{bit_high, bit_of_or, bit_pow, bit_suc, first_false}
 use Rattle.rules.specs.Fabrics.{Homely, Meaning, OfOneOrTwo, hybrid, member, separate, unified, by_kind}
 use Rattle.rules.specs.Layouts.{Lawful}
 use Rattle.rules.specs.PlacingLaws.{FabricsAreLawful}
@@ -21,17 +21,17 @@ module _ (cores touching : ℕ) (set : OfOneOrTwo cores touching) where
   a_core : (c : ℕ) → member touching c ≡ true → c < cores
   a_core c m =
       let below = within in
-      ⊎_elim (λ l. l) (λ past. absurd (both_ways (member touching c) (member_high touching cores c below past) m)) (cases_lt c cores)
+      ⊎_elim (λ l. l) (λ past. absurd (both_ways (member touching c) (bit_high touching cores c below past) m)) (cases_lt c cores)
 
   some_core : (c : ℕ) × (member touching c ≡ true)
   some_core =
       let a = set.0 in
       let b = set.1 in
-      (a, ap (λ w. member w a) set.4 ∙ member_or (2 ^ a) (2 ^ b) a ∙ or_left (member (2 ^ a) a) (member (2 ^ b) a) (member_pow a a ∙ eq-eqb a a refl))
+      (a, ap (λ w. member w a) set.4 ∙ bit_of_or (2 ^ a) (2 ^ b) a ∙ or_left (member (2 ^ a) a) (member (2 ^ b) a) (bit_pow a a ∙ eq-eqb a a refl))
 
   -- bank 0 alone
   only_bank : (b : ℕ) → member 1 b ≡ true → 0 ≡ b
-  only_bank b m = eqb-true 0 b (sym (member_pow 0 b) ∙ m)
+  only_bank b m = eqb-true 0 b (sym (bit_pow 0 b) ∙ m)
 
   -- one shared bank gives homes as it should
   pub unified_homely : (shared : ℕ) → Homely (unified cores shared) touching
@@ -56,13 +56,13 @@ module _ (cores touching : ℕ) (set : OfOneOrTwo cores touching) where
   own_bank : (c : ℕ) → member touching c ≡ true → member (touching * 2) (c + 1) ≡ true
   own_bank c m =
       let half : touching * 2 / 2 ≡ touching = omega arith in
-      ap (member (touching * 2)) (let s : c + 1 ≡ suc c = omega arith in s) ∙ member_suc (touching * 2) c ∙ ap (λ w. member w c) half ∙ m
+      ap (member (touching * 2)) (let s : c + 1 ≡ suc c = omega arith in s) ∙ bit_suc (touching * 2) c ∙ ap (λ w. member w c) half ∙ m
 
   owner : (b : ℕ) → member (touching * 2) b ≡ true → (c : ℕ) × (member touching c ≡ true) × (b ≡ c + 1)
-  owner zero m = absurd (both_ways (member (touching * 2) 0) (member_even (touching * 2) (omega arith)) m)
+  owner zero m = absurd (both_ways (member (touching * 2) 0) (first_false (touching * 2) (omega arith)) m)
   owner (suc c) m =
       let half : touching ≡ touching * 2 / 2 = omega arith in
-      (c, ap (λ w. member w c) half ∙ sym (member_suc (touching * 2) c) ∙ m, omega arith)
+      (c, ap (λ w. member w c) half ∙ sym (bit_suc (touching * 2) c) ∙ m, omega arith)
 
   -- the three facts of `Homely`, of a given set of homes
   Good : Meaning → ℕ → Type 0

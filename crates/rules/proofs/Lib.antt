@@ -17,7 +17,6 @@ pub mod Witnesses
 pub mod Exact
 pub mod Answered
 pub mod Preferred
-pub mod Digits
 pub mod Homes
 pub mod Rounding
 pub mod GapLists
