@@ -16,7 +16,7 @@ pub fn number(s: &[u8]) -> Option<(u32, &[u8])>
     }
     let mut n: u32 = 0;
     let mut rest = s;
-    // kept: the pattern takes a digit and leaves what follows; a fold would want the digits cut off first.
+    // kept: the pattern takes a digit and leaves the rest; a fold wants the digits cut off first.
     while let [d @ b'0'..=b'9', more @ ..] = rest {
         n = n.checked_mul(10)?.checked_add(u32::from(*d - b'0'))?;
         rest = more;
