@@ -12,7 +12,7 @@ use crate::rule::FitRule;
 use rules::sheet::{Fit, Layer};
 
 // The rule that a sheet's fit names.
-#[derive(Clone, Copy)]
+#[derive(Clone, Copy, Debug, PartialEq, Eq)]
 pub struct NamedFit(pub Fit);
 
 impl FitRule for NamedFit {
@@ -29,7 +29,7 @@ impl FitRule for NamedFit {
 }
 
 // The rule of a sheet: the fit that it names, under at most one layer of each sort.
-#[derive(Clone, Copy)]
+#[derive(Clone, Copy, Debug, PartialEq, Eq)]
 pub enum SheetRule {
     Plain(NamedFit),
     LowOnly(Low<NamedFit>),
