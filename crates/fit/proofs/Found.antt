@@ -23,7 +23,7 @@ module _ (size grain : ℕ) where
 
 -- a run over the gaps, with a closure that places the object in one
 module _ {S F : Type 0} {steps : S → Option (Bor Stretch) → S → Type 0} (size grain : ℕ) (gs : List Stretch) (p : Run steps) (g : Mut F (Bor Stretch × Unit {0}) (Option (ℕ × ℕ)))
-  (f : F) (read : ItemsMapTo p (λ y. y.now) gs) (places : (x : Bor Stretch) (r : Option (ℕ × ℕ)) (q : F) → Called g f (x, tt) r q → (q ≡ f) × (r ≡ offer x.now size grain)) where
+    (f : F) (read : ItemsMapTo p (λ y. y.now) gs) (places : (x : Bor Stretch) (r : Option (ℕ × ℕ)) (q : F) → Called g f (x, tt) r q → (q ≡ f) × (r ≡ offer x.now size grain)) where
   gave : (r : Option (ℕ × ℕ)) (o : Option (Bor Stretch)) (h : Stretch) → option_map (λ y. y.now) o ≡ Some h → IfSome o (λ x. Called g f (x, tt) r f) → offer h size grain ≡ r
   gave r None h e c = cc
   gave r (Some x) h e c =

@@ -22,7 +22,7 @@ abbrev pub lesser : {B : Type 0} → (B → ℕ) → B → B → B
 lesser key b x = cond (ltb (key x) (key b)) x b
 
 module _ {A F B : Type 0} (v : A → B) (key : B → ℕ) (g : Mut F (Bor A × Unit {0}) ℕ) (f : F)
-  (computes : (x : A) (k : ℕ) (q : F) → CalledAt g f x k q → (q ≡ f) × (k ≡ key (v x))) where
+    (computes : (x : A) (k : ℕ) (q : F) → CalledAt g f x k q → (q ≡ f) × (k ≡ key (v x))) where
   picked : (m n : ℕ) (b x : A) (o : Ordering) → MatchOrdering o (m < n) (m ≡ n) (n < m) → v (min_by_ordering o b x) ≡ cond (ltb n m) (v x) (v b)
   picked m n b x Less h = sym (ap (λ w. cond w (v x) (v b)) (le-ltb n m (omega arith)))
   picked m n b x Equal h = sym (ap (λ w. cond w (v x) (v b)) (le-ltb n m (omega arith)))
@@ -42,8 +42,7 @@ module _ {A F B : Type 0} (v : A → B) (key : B → ℕ) (g : Mut F (Bor A × U
   turned b x q t =
       let m = computes x t.0 q.0.0 t.2 in
       let o : t.1 ≡ nat_cmp (key (v b)) (key (v x)) = sym (ap (nat_cmp (key (v b))) (sym m.1) ∙ t.3) in
-      let k : q.0.1 ≡ key (v q.1) = t.4 ∙ ap (min_by_ordering t.1 (key (v b))) m.1 ∙ key_picked b x t.1 ∙ sym (ap (λ y. key (v y)) t.5) in
-      (
+      let k : q.0.1 ≡ key (v q.1) = t.4 ∙ ap (min_by_ordering t.1 (key (v b))) m.1 ∙ key_picked b x t.1 ∙ sym (ap (λ y. key (v y)) t.5) in (
         (λ i. ((m.0 i, k i), q.1)),
         ap v t.5 ∙ picked (key (v b)) (key (v x)) b x t.1 (ranked (key (v b)) (key (v x)) t.1 o),
       )

@@ -17,6 +17,8 @@ impl FitRule for FirstFit {
     ghost lawful = { λ r. by_fit_lawful First };
 
     fn fit(&self, q: Question<'_>) -> Option<(u32, u32)> {
-        q.gaps.iter().find_map(|gap| place_in(*gap, q.size, q.grain))
+        q.gaps
+            .iter()
+            .find_map(|gap| place_in(*gap, q.size, q.grain))
     }
 }

@@ -13,7 +13,8 @@ pub fn round_up(start: u32, grain: u32) -> u64
     if grain == 0 {
         return 0;
     }
-    u64::from(start).next_multiple_of(u64::from(grain))
+    let step = u64::from(grain);
+    u64::from(start).div_ceil(step) * step
 }
 
 // The answer that takes this gap, if the gap holds the object.

@@ -1,15 +1,19 @@
-use Rattle.std.proofs.Common.{◌≡◌, ℕ, ◌+◌, ◌-◌, ◌*◌, ◌/◌, ◌%◌, ◌<◌, ◌≤◌, sym, ap, ◌∙◌, mul-zero, arith}
-use Rattle.std.proofs.lemmas.Nat.{div-add-mod', div-mul-add}
+use Rattle.std.proofs.Common.{◌≡◌, ℕ, ◌+◌, ◌-◌, ◌*◌, ◌/◌, ◌<◌, sym, ap, ◌∙◌, mul-zero, arith}
+use Rattle.std.specs.Int.{div_ceil}
+use Rattle.std.proofs.lemmas.Nat.{div-mul-add}
+use Rattle.std.proofs.lemmas.Grind.{div_ceil_times}
 use Rattle.rules.specs.Stretches.{rounded_up}
 use Rattle.fit.proofs.place.round_up.Goals as goal
 
--- the one multiple of the grain that is at or above n and below n + grain
-only_multiple : (grain n m : ℕ) → n ≤ m → m < n + grain → m % grain ≡ 0 → m ≡ rounded_up grain n
+ceil_rounds : (grain n : ℕ) → 0 < grain → div_ceil n grain * grain ≡ rounded_up grain n
 unfolding rounded_up
-only_multiple grain n m above below whole =
-    let rows : m / grain * grain ≡ m = omega (arith, div-add-mod' m grain) in
-    let split : n + (grain - 1) ≡ m / grain * grain + (n + (grain - 1) - m) = omega arith in
-    sym (ap (λ k. k / grain * grain) split ∙ ap (λ k. k * grain) (div-mul-add (m / grain) grain (n + (grain - 1) - m) (omega arith)) ∙ rows)
+ceil_rounds grain n some =
+    let k : ℕ = div_ceil n grain in
+    let near = div_ceil_times n grain some in
+    let split : n + (grain - 1) ≡ k * grain + (n + (grain - 1) - k * grain) = omega (arith, near.0, near.1) in
+    sym
+    (ap (λ m. m / grain * grain) split
+    ∙ ap (λ m. m * grain) (div-mul-add k grain (n + (grain - 1) - k * grain) (omega (arith, near.0, near.1))))
 
 pub returns-then-grain-eq0-clause-value : goal.returns-then-grain-eq0-clause-value
 unfolding rounded_up
@@ -18,5 +22,8 @@ returns-then-grain-eq0-clause-value c =
 
 pub returns-clause-value : goal.returns-clause-value
 returns-clause-value c =
-    only_multiple c.args.grain c.args.start c.next_multiple_of.result (omega arith) (omega arith)
-    (sym (ap (λ g. c.next_multiple_of.result % g) c.from-2.ensures) ∙ c.next_multiple_of.ensures.multiple)
+    let ceil : c.div_ceil.result ≡ div_ceil c.args.start c.args.grain =
+    c.div_ceil.ensures ∙ ap (λ n. div_ceil n c.from-step.result) c.from.ensures ∙ ap (div_ceil c.args.start) c.from-step.ensures
+    in
+    ap (λ g. c.div_ceil.result * g) c.from-step.ensures ∙ ap (λ k. k * c.args.grain) ceil
+    ∙ ceil_rounds c.args.grain c.args.start (omega arith)
