@@ -1,10 +1,10 @@
 -- Gaps ascend if each has a byte and ends at or below the start of the next.
-use Rattle.std.proofs.Common.{◌≡◌, ℕ, zero, suc, ◌+◌, ◌<◌, ◌≤◌, Bool, true, false, ◌&&◌, ltb, leb, List, [], ◌∷◌, length, get_or, refl, sym, subst, arith}
+use Rattle.std.proofs.Common.{◌≡◌, ℕ, zero, suc, ◌+◌, ◌<◌, ◌≤◌, Bool, true, false, ltb, leb, List, [], ◌∷◌, length, get_or, refl, sym, subst, arith}
 use Rattle.std.specs.List.{list_all, AllAdjacentBelow, IsAllAdjacentAnswer}
 use Rattle.std.proofs.lemmas.Bool.{and_parts, and_from, both_ways, leb-true, ltb-true, lt-ltb, le-leb}
 use Rattle.rules.specs.declared.memory.Stretch.{Stretch}
 use Rattle.rules.specs.Fitting.{ascend_from}
-use Rattle.rules.proofs.Questions.{Next, next_parts, next_from}
+use Rattle.rules.proofs.Questions.{next_parts, next_from}
 use Rattle.fit.specs.Asking.{filled}
 
 -- a gap ends at or below the start of another

@@ -1,5 +1,5 @@
 -- Best fit finds the first of the gaps with the fewest bytes that hold the size.
-use Rattle.std.proofs.Common.{◌≡◌, ℕ, ◌+◌, ◌<◌, ◌≤◌, Bool, true, false, cond, ◌&&◌, ltb, leb, List, [], ◌∷◌, map, filter, Some, None, Option, Bor, nat_cmp, refl, sym, ap, ◌∙◌, subst, arith}
+use Rattle.std.proofs.Common.{◌≡◌, ℕ, ◌+◌, ◌<◌, Bool, true, false, cond, ◌&&◌, ltb, leb, List, [], ◌∷◌, map, filter, Some, None, Option, Bor, nat_cmp, refl, sym, ap, ◌∙◌, subst, arith}
 use Rattle.std.specs.Option.{option_map, MatchOption, is_some}
 use Rattle.std.specs.List.{FoldsTo, fold, reduce}
 use Rattle.std.specs.declared.cmp.Ordering.{Ordering}

@@ -1,4 +1,5 @@
 // Layers: fit rules over any fit rule.
+// kept: two structs, since callers write their fields `line` and `limit`, and a rule for every layer would overlap the other rules
 ghost use Rattle.rules.specs.Fitting.{ends_below, is_snug, low, snug};
 ghost use Rattle.fit.specs.Lawful.{low_lawful, snug_lawful};
 
