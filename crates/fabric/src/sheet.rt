@@ -3,7 +3,7 @@ ghost use Rattle.std.specs.Prelude.{◌≡◌, ◌^◌, ◌<◌, ◌≤◌, ◌=
 ghost use Rattle.rules.specs.Fabrics.{by_kind, fabric_of};
 ghost use Rattle.fabric.specs.Sheets.{sheet_means};
 ghost use Rattle.fabric.specs.declared.boards.SheetFabric.TheVariants.{Unified, Private, Hybrid};
-ghost use Rattle.fabric.specs.Homes.{hybrid_homely, separate_homely, unified_homely};
+ghost use Rattle.rules.proofs.Homes.{hybrid_homely, separate_homely, unified_homely};
 ghost use Rattle.std.proofs.Common.{lit≤, le_refl, le_trans, add-le-add};
 ghost use Rattle.std.proofs.lemmas.Bool.{cond_both};
 
@@ -35,7 +35,7 @@ impl SheetFabric {
 impl Fabric for SheetFabric {
     const MAX_BANKS: u32 = 9;
 
-    ghost most = { 9 };
+    ghost MAX_BANKS = { 9 };
 
     ghost means = { sheet_means };
 
@@ -58,10 +58,6 @@ impl Fabric for SheetFabric {
       | Private f ↦ λ touching set. separate_homely f.cores touching set f.capacity
       | Hybrid f ↦ λ touching set. hybrid_homely f.cores touching set f.shared f.private
     ] };
-
-    fn most_banks() -> u32 {
-        Self::MAX_BANKS
-    }
 
     fn cores(&self) -> u32 {
         match self {
