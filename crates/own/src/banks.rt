@@ -9,7 +9,7 @@ use fabric::Fabric;
 use words::count;
 
 // Two banks that every core reaches. Bank 0 is the home of what one core touches, bank 1 of what two cores touch.
-#[derive(Clone, Copy)]
+#[derive(Clone, Copy, Debug, PartialEq, Eq)]
 pub struct TwinBanks {
     pub cores: u32,
     pub lone: u32,
