@@ -1,12 +1,12 @@
 // The fabric of a sheet.
-ghost use Rattle.std.specs.Prelude.{◌≡◌, ◌^◌, ◌<◌, ◌≤◌, ◌==◌, min};
+ghost use Rattle.std.specs.Prelude.{◌≡◌, ◌≤◌, min};
 ghost use Rattle.rules.specs.Fabrics.{by_kind, fabric_of};
 ghost use Rattle.fabric.specs.Sheets.{sheet_means};
 ghost use Rattle.fabric.specs.declared.boards.SheetFabric.TheVariants.{Unified, Private, Hybrid};
 ghost use Rattle.fabric.specs.contracts.kinds.SharedBankFabric.TheImpl.Laws as shared;
 ghost use Rattle.fabric.specs.contracts.kinds.PrivateBanksFabric.TheImpl.Laws as private;
 ghost use Rattle.fabric.specs.contracts.kinds.HybridBanksFabric.TheImpl.Laws as hybrid;
-ghost use Rattle.std.proofs.Common.{lit≤, le_refl, le_trans, add-le-add};
+ghost use Rattle.std.proofs.Common.{lit≤, le_trans};
 
 use crate::boards::{HybridBanks, PrivateBanks, SharedBank, SheetFabric};
 use crate::fabric::Fabric;
