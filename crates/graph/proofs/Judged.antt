@@ -21,7 +21,7 @@ use Rattle.graph.specs.declared.stage.Stage.TheVariants.{Blank, Machined, Ruled}
 use Rattle.graph.specs.Ranges.{machine_in_range}
 use Rattle.graph.specs.Judging.{unless, judge_machine, judge_fit, judge_layer, judge_actor, has_sort, layer_in_range}
 use Rattle.graph.specs.Taking.{refusal_number, draft_from}
-use Rattle.graph.proofs.Nils.{nil}
+use Rattle.std.proofs.lemmas.List.{nil_from_length}
 use Rattle.graph.proofs.Ranged.{refuted, machine_told, machine_heard, layer_told, layer_heard}
 
 -- none refuses the entry, or this one does and none with a lower number
@@ -116,7 +116,7 @@ layer_judged (Ruled m f) layers actors links n l long empty =
     (λ t.
     let parts = and_parts (eqb n 0) (not (has_sort l layers)) t in
     let none = eqb-true n 0 parts.0 in
-    let p5 = timely d e (layer_told_turn s l (nil actors (sym long ∙ none)) (empty none) (not-true (has_sort l layers) parts.1)) in
+    let p5 = timely d e (layer_told_turn s l (nil_from_length actors (sym long ∙ none)) (empty none) (not-true (has_sort l layers) parts.1)) in
     checked d e OffRange (layer_in_range l) None p5
     (λ clear. off_range e (refuted (layer_in_range l) (layer_heard l) clear))
     (λ r. free_at d e
@@ -135,7 +135,7 @@ actor_judged (Ruled m f) layers actors links n k a long many =
     let e = NextActor a in
     checked d e OutOfTurn (eqb k 0) (unless (leb a.work 16777216) OffRange (unless (ltb a.core m.cores) Unknown (unless (ltb n 64) TooMany None))) (passed_none d e)
     (λ clear. out_of_turn e (refuted (eqb k 0) (λ t. eq-eqb k 0 (many ∙ ap length (turns t))) clear))
-    (λ t4. let p5 = timely d e (actor_then s a (nil links (sym many ∙ eqb-true k 0 t4))) in
+    (λ t4. let p5 = timely d e (actor_then s a (nil_from_length links (sym many ∙ eqb-true k 0 t4))) in
     checked d e OffRange (leb a.work 16777216) (unless (ltb a.core m.cores) Unknown (unless (ltb n 64) TooMany None)) p5
     (λ clear. off_range e (refuted (leb a.work 16777216) (le-leb a.work 16777216) clear))
     (λ t5. let p6 = passed_more d e 5 p5 (λ no. no (leb-true a.work 16777216 t5)) in

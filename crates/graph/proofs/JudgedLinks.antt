@@ -23,7 +23,7 @@ use Rattle.graph.specs.Rows.{before, up_to, may_join}
 use Rattle.graph.specs.Orders.{Heard, Meant}
 use Rattle.graph.specs.Judging.{unless, judge_fifo, judge_plain, judge_sequence}
 use Rattle.graph.specs.Taking.{draft_from}
-use Rattle.graph.proofs.Nils.{nil}
+use Rattle.std.proofs.lemmas.List.{nil_from_length}
 use Rattle.graph.proofs.Ranged.{refuted, size_told, size_heard}
 use Rattle.graph.proofs.Ties.{told}
 use Rattle.graph.proofs.Judged.{Judgement, checked, timely}
@@ -60,10 +60,10 @@ forbids rows links meant a b la lb differ f =
     (and_fails (ltb a 64) (ltb b 64 && not (up_to (before rows) b a)) f)
 
 -- a link on a sheet that has no actor is out of turn
-no_actor : (stage : Stage) (layers : List Layer) (actors : List Actor) (links : List Link) (k : Link) → length actors ≡ 0 → InTurn (draft_from stage layers actors links) (NextLink k) → ⊥
+pub no_actor : (stage : Stage) (layers : List Layer) (actors : List Actor) (links : List Link) (k : Link) → length actors ≡ 0 → InTurn (draft_from stage layers actors links) (NextLink k) → ⊥
 no_actor Blank layers actors links k none t = turns t
 no_actor (Machined m) layers actors links k none t = turns t
-no_actor (Ruled m f) layers actors links k none t = turns t (nil actors none)
+no_actor (Ruled m f) layers actors links k none t = turns t (nil_from_length actors none)
 
 -- on one that has, it is in turn, and the draft has its actors and links
 pub record Peopled (stage : Stage) (layers : List Layer) (actors : List Actor) (links : List Link) : Type 0 where

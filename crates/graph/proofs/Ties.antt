@@ -1,5 +1,5 @@
 -- A table holds the order of links with one link more.
-use Rattle.std.proofs.Common.{◌≡◌, ℕ, ◌+◌, Bool, true, false, ◌&&◌, eqb, List, [], ◌∷◌, ◌++◌, sym, refl, ◌∙◌, subst, inl, inr, ⊎_elim, arith}
+use Rattle.std.proofs.Common.{◌≡◌, ℕ, ◌+◌, Bool, true, false, ◌&&◌, eqb, List, [], ◌∷◌, ◌++◌, Some, None, Ok, Err, Option, Result, is_some, sym, refl, ap, ◌∙◌, subst, inl, inr, ⊎_elim, arith}
 use Rattle.std.proofs.lemmas.Bool.{or_cases, or_left, or_right, and_parts, and_from, eqb-true, eq-eqb}
 use Rattle.rules.specs.declared.sheet.Link.{Link}
 use Rattle.rules.specs.Order.{Linked, UpTo, edges}
@@ -9,7 +9,14 @@ use Rattle.rules.specs.Drafts.{Orders, from, to, fifo_count}
 use Rattle.rules.proofs.Chains.{closes}
 use Rattle.rules.proofs.Orderings.{linked, no_chain}
 use Rattle.rules.proofs.Joining.{link_adds_a_pair, other_link_adds_none}
-use Rattle.graph.specs.Rows.{before, up_to, joined}
+use Rattle.graph.specs.Rows.{before, up_to, joined, may_join}
+use Rattle.graph.specs.declared.faults.Refusal.{Refusal}
+use Rattle.graph.specs.declared.faults.Refusal.TheVariants.{Backward}
+use Rattle.graph.specs.declared.order.Order.{Order}
+use Rattle.graph.specs.Judging.{unless}
+use Rattle.graph.specs.Taking.{Judges, JudgesOrder}
+use Rattle.std.specs.Option.{ok_or}
+use Rattle.std.specs.Prelude.{IfSome, MatchResult}
 use Rattle.graph.specs.Orders.{Heard, Meant}
 
 -- where the bit is set a chain leads
@@ -79,3 +86,21 @@ fifo_count_more (Ordered q ∷ ks) k = fifo_count_more ks k
 -- a FIFO with initial tokens orders nothing
 pub delayed_idle : (f : Fifo) → Orders (Delayed f) → ⊥
 delayed_idle f h = elim h [ ]
+
+-- where only the order can refuse a link, adding its ends judges it
+pub order_judged : (rows : List ℕ) (links : List Link) (k : Link) (j : Option Refusal) (added : Option Order) (r : Result Order Refusal) → Orders k → Heard rows links → Meant rows links →
+    j ≡ unless (may_join rows (from k) (to k)) Backward None → is_some added ≡ may_join rows (from k) (to k) →
+    IfSome added (λ o. (x y : ℕ) → before o.rows x y ≡ joined (before rows) (from k) (to k) x y) → r ≡ ok_or added Backward → JudgesOrder j (links ++ k ∷ []) r
+order_judged rows links k j added r orders heard meant so some same is = subst (JudgesOrder j (links ++ k ∷ [])) (sym is) (go added some same)
+  where
+    go : (o : Option Order) → is_some o ≡ may_join rows (from k) (to k) → IfSome o (λ q. (x y : ℕ) → before q.rows x y ≡ joined (before rows) (from k) (to k) x y) →
+        JudgesOrder j (links ++ k ∷ []) (ok_or o Backward)
+    go (Some o) e more = (so ∙ ap (λ b. unless b Backward None) (sym e), heard_more rows o.rows links k orders more heard meant, meant_more rows o.rows links k orders more heard meant)
+    go None e more = so ∙ ap (λ b. unless b Backward None) (sym e)
+
+-- a FIFO with initial tokens leaves the order as it is
+pub delayed_order : (order : Order) (links : List Link) (f : Fifo) (j : Option Refusal) (r : Result Unit Refusal) (m : Result Order Refusal) → Heard order.rows links → Meant order.rows links →
+    Judges j r → MatchResult r (λ _. m ≡ Ok order) (λ e. m ≡ Err e) → JudgesOrder j (links ++ Delayed f ∷ []) m
+delayed_order order links f j (Ok u) m heard meant judged is =
+    subst (JudgesOrder j (links ++ Delayed f ∷ [])) (sym is) (judged, heard_delayed order.rows links (Delayed f) (delayed_idle f) heard, meant_delayed order.rows links (Delayed f) (delayed_idle f) meant)
+delayed_order order links f j (Err e) m heard meant judged is = subst (JudgesOrder j (links ++ Delayed f ∷ [])) (sym is) judged

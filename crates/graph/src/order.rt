@@ -8,7 +8,7 @@ use words::{has, with};
 pub const MOST_ACTORS: usize = 64;
 
 // Bit b of row a says that actor a is before actor b. The table is transitive, and puts no actor before itself.
-#[derive(Clone, Copy)]
+#[derive(Clone, Copy, Debug, PartialEq, Eq)]
 pub struct Order {
     pub(crate) rows: [u64; MOST_ACTORS],
     ghost long: { length rows ≡ 64 },
@@ -46,10 +46,8 @@ impl Order {
         ensures refused { is_some result ≡ may_join self.now.rows a b }
         ensures joined { IfSome result (λ o. (x y : ℕ) → before o.rows x y ≡ joined (before self.now.rows) a b x y) }
     {
-        if a as usize >= MOST_ACTORS || b as usize >= MOST_ACTORS || self.at_or_before(b, a) {
-            return None;
-        }
-        Some(self.joined(a, b))
+        let known = (a as usize) < MOST_ACTORS && (b as usize) < MOST_ACTORS;
+        (known && !self.at_or_before(b, a)).then(|| self.joined(a, b))
     }
 
     // The table with the pair, written whole.
@@ -59,9 +57,9 @@ impl Order {
     {
         let gained = with(self.rows[b as usize], b);
         let mut rows = self.rows;
-        for x in 0..MOST_ACTORS {
+        for (x, row) in rows.iter_mut().enumerate() {
             if self.at_or_before(x as u32, a) {
-                rows[x] |= gained;
+                *row |= gained;
             }
         }
         Order { rows }

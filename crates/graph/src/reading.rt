@@ -18,9 +18,8 @@ impl ReadSheet {
         let mut at: u32 = 2;
         while !rest.is_empty() {
             let (entry, more) = next_entry(rest, at)?;
-            if let Err(refusal) = self.take(entry) {
-                return Err(GraphFault::Refused(refusal, at));
-            }
+            self.take(entry)
+                .map_err(|refusal| GraphFault::Refused(refusal, at))?;
             rest = more;
             at += 1;
         }
