@@ -1,5 +1,5 @@
 -- What the end of a text finds.
-use Rattle.std.proofs.Common.{◌≡◌, ℕ, false, List, [], length, vec_items, vec_len, sym, refl, ap, ◌∙◌, arith}
+use Rattle.std.proofs.Common.{◌≡◌, false, List, [], length, vec_items, vec_len, sym, refl, ap, ◌∙◌}
 use Rattle.rules.specs.declared.sheet.Layer.{Layer}
 use Rattle.rules.specs.declared.sheet.Actor.{Actor}
 use Rattle.rules.specs.declared.sheet.Link.{Link}
@@ -14,8 +14,8 @@ use Rattle.graph.specs.Taking.{draft_from, draft_of}
 use Rattle.std.proofs.lemmas.List.{nil_from_length}
 
 none_yet : (stage : Stage) (layers : List Layer) (actors : List Actor) (links : List Link) → actors ≡ [] → (s : Sheet) → Complete (draft_from stage layers actors links) s → ⊥
-none_yet Blank layers actors links none s c = let e = c.0 in let z : ◌≡◌ {A = ℕ} 0 1 = cc in omega arith
-none_yet (Machined m) layers actors links none s c = let e = c.0 in let z : ◌≡◌ {A = ℕ} 0 1 = cc in omega arith
+none_yet Blank layers actors links none s c = let e = c.0 in cc
+none_yet (Machined m) layers actors links none s c = let e = c.0 in cc
 none_yet (Ruled m f) layers actors links none s c = c.1 (sym (ap actors_of c.0) ∙ none)
 
 -- no actor: something is missing

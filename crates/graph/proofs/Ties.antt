@@ -21,10 +21,7 @@ use Rattle.graph.specs.Orders.{Heard, Meant}
 
 -- where the bit is set a chain leads
 pub told : (rows : List ℕ) (links : List Link) → Meant rows links → (x y : ℕ) → before rows x y ≡ true → Linked (edges links) x y
-told rows links meant x y set = ⊎_elim (λ h. h) (λ no. absurd (clash (meant x y no))) (linked (edges links) x y)
-  where
-    clash : before rows x y ≡ false → ⊥
-    clash clear = let z : false ≡ true = sym clear ∙ set in let k : ◌≡◌ {A = ℕ} 0 1 = cc in omega arith
+told rows links meant x y set = ⊎_elim (λ h. h) (λ no. let clear = meant x y no in absurd (cc)) (linked (edges links) x y)
 
 -- empty rows hold the order of no links
 pub heard_none : (rows : List ℕ) → ((a b : ℕ) → before rows a b ≡ false) → Heard rows []
@@ -84,7 +81,7 @@ fifo_count_more (Delayed f ∷ ks) k = let more = fifo_count_more ks k in omega 
 fifo_count_more (Ordered q ∷ ks) k = fifo_count_more ks k
 
 -- a FIFO with initial tokens orders nothing
-pub delayed_idle : (f : Fifo) → Orders (Delayed f) → ⊥
+delayed_idle : (f : Fifo) → Orders (Delayed f) → ⊥
 delayed_idle f h = elim h [ ]
 
 -- where only the order can refuse a link, adding its ends judges it

@@ -29,6 +29,7 @@ fn row_of(objects: &[Object], order: &Order, x: usize, object: Object) -> Row
     ensures { (y : ℕ) → in_row result.words y ≡ excluding order.now.rows objects.now x y }
 {
     let mut row = Row::default();
+    // kept: a fold over a filter is longer, as both closures take the number and the object.
     for (y, other) in objects.iter().enumerate() {
         if y != x && !are_apart(order, object, *other) {
             row = row.adding(y);

@@ -27,6 +27,7 @@ impl Order {
     }
 
     // Whether actor a is before actor b.
+    // kept: a pair of actors in a struct would be taken apart in each body.
     pub fn before(&self, a: u32, b: u32) -> bool
         ensures { result ≡ before self.now.rows a b }
     {

@@ -28,6 +28,7 @@ fn machine_in_range(m: &Machine) -> bool
 }
 
 // Whether two layers are of one sort.
+// kept: std has no discriminant, and an enum of the two sorts with its equality is longer.
 fn are_of_one_sort(a: Layer, b: Layer) -> bool
     ensures { result ≡ same_sort a b }
 {
@@ -48,6 +49,7 @@ impl ReadSheet {
     pub(crate) fn take_machine(&mut self, machine: Machine) -> Result<(), Refusal>
         ensures { TookBy (judge_machine self.old.stage machine) (draft_of self.old) (OnMachine machine) (draft_of self.new) result }
     {
+        // kept: one of three stages, and no Option.
         let Stage::Blank = self.stage else {
             return Err(Refusal::OutOfTurn);
         };
@@ -61,6 +63,7 @@ impl ReadSheet {
     pub(crate) fn take_fit(&mut self, fit: Fit) -> Result<(), Refusal>
         ensures { TookBy (judge_fit self.old.stage) (draft_of self.old) (ByFit fit) (draft_of self.new) result }
     {
+        // kept: one of three stages, and no Option.
         let Stage::Machined(machine) = self.stage else {
             return Err(Refusal::OutOfTurn);
         };
@@ -71,6 +74,7 @@ impl ReadSheet {
     pub(crate) fn take_layer(&mut self, layer: Layer) -> Result<(), Refusal>
         ensures { TookBy (judge_layer self.old.stage (vec_len self.old.actors) self.old.layers.items layer) (draft_of self.old) (WithLayer layer) (draft_of self.new) result }
     {
+        // kept: one of three stages, and no Option.
         let Stage::Ruled(_, _) = self.stage else {
             return Err(Refusal::OutOfTurn);
         };
@@ -87,6 +91,7 @@ impl ReadSheet {
     pub(crate) fn take_actor(&mut self, actor: Actor) -> Result<(), Refusal>
         ensures { TookBy (judge_actor self.old.stage (vec_len self.old.actors) (vec_len self.old.links.list) actor) (draft_of self.old) (NextActor actor) (draft_of self.new) result }
     {
+        // kept: one of three stages, and no Option.
         let Stage::Ruled(machine, _) = self.stage else {
             return Err(Refusal::OutOfTurn);
         };
