@@ -13,6 +13,7 @@ pub struct Row {
     ghost long: { length words ≡ 4 },
 }
 
+// kept: Default is not derived over a ghost field.
 impl Default for Row {
     // The empty set.
     fn default() -> Row

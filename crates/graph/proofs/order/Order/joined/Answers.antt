@@ -34,9 +34,3 @@ invariant_of-result c =
     let parts = may_join_parts order.rows c.args.a c.args.b c.requires.allowed in
     let same = written order.rows c.loop-x.row-items c.args.a c.args.b c.loop-x.x order.long parts.0 c.loop-x-test.false c.loop-x.auto.x-end c.loop-x.invariant in
     let through = through_from_test (before order.rows) order.transitive in record { long = c.loop-x.invariant.long; irreflexive = (λ x. same x x ∙ joined_irreflexive (before order.rows) c.args.a c.args.b through order.irreflexive parts.2 x); transitive = test_from_through (before c.loop-x.row-items) (through_alike (before c.loop-x.row-items) (joined (before order.rows) c.args.a c.args.b) same (joined_through (before order.rows) c.args.a c.args.b through)) }
-
-pub returns : goal.returns
-returns c =
-    let order = c.args.self.now in
-    let parts = may_join_parts order.rows c.args.a c.args.b c.requires.allowed in
-    written order.rows c.loop-x.row-items c.args.a c.args.b c.loop-x.x order.long parts.0 c.loop-x-test.false c.loop-x.auto.x-end c.loop-x.invariant
