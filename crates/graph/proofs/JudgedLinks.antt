@@ -37,7 +37,7 @@ allows rows links heard k orders t d same h =
     (or_right (eqb (to k) (from k)) (before rows (to k) (from k)) (heard (to k) (from k) (subst (λ ks. Linked (edges ks) (to k) (from k)) same h)))
 
 -- what it forbids: the second is before the first
-forbids : (rows : List ℕ) (links : List Link) → Meant rows links → (a b : ℕ) → a < 64 → b < 64 → (a ≡ b → ⊥) → may_join rows a b ≡ false → Linked (edges links) b a
+pub forbids : (rows : List ℕ) (links : List Link) → Meant rows links → (a b : ℕ) → a < 64 → b < 64 → (a ≡ b → ⊥) → may_join rows a b ≡ false → Linked (edges links) b a
 forbids rows links meant a b la lb differ f =
     ⊎_elim
     (λ x. absurd (refuted (ltb a 64) (lt-ltb a 64) x la))

@@ -2,6 +2,7 @@
 use Rattle.std.proofs.Common.{◌≡◌, ℕ, ◌+◌, Bool, true, false, ◌&&◌, eqb, List, [], ◌∷◌, ◌++◌, Some, None, Ok, Err, Option, Result, is_some, sym, refl, ap, ◌∙◌, subst, inl, inr, ⊎_elim, arith}
 use Rattle.std.proofs.lemmas.Bool.{or_cases, or_left, or_right, and_parts, and_from, eqb-true, eq-eqb}
 use Rattle.rules.specs.declared.sheet.Link.{Link}
+use Rattle.rules.specs.declared.sheet.Sequence.{Sequence}
 use Rattle.rules.specs.Order.{Linked, UpTo, edges}
 use Rattle.rules.specs.declared.sheet.Fifo.{Fifo}
 use Rattle.rules.specs.declared.sheet.Link.TheVariants.{Plain, Delayed, Ordered}
@@ -10,13 +11,6 @@ use Rattle.rules.proofs.Chains.{closes}
 use Rattle.rules.proofs.Orderings.{linked, no_chain}
 use Rattle.rules.proofs.Joining.{link_adds_a_pair, other_link_adds_none}
 use Rattle.graph.specs.Rows.{before, up_to, joined, may_join}
-use Rattle.graph.specs.declared.faults.Refusal.{Refusal}
-use Rattle.graph.specs.declared.faults.Refusal.TheVariants.{Backward}
-use Rattle.graph.specs.declared.order.Order.{Order}
-use Rattle.graph.specs.Judging.{unless}
-use Rattle.graph.specs.Taking.{Judges, JudgesOrder}
-use Rattle.std.specs.Option.{ok_or}
-use Rattle.std.specs.Prelude.{IfSome, MatchResult}
 use Rattle.graph.specs.Orders.{Heard, Meant}
 
 -- where the bit is set a chain leads
@@ -80,24 +74,14 @@ fifo_count_more (Plain f ∷ ks) k = let more = fifo_count_more ks k in omega ar
 fifo_count_more (Delayed f ∷ ks) k = let more = fifo_count_more ks k in omega arith
 fifo_count_more (Ordered q ∷ ks) k = fifo_count_more ks k
 
--- a FIFO with initial tokens orders nothing
-delayed_idle : (f : Fifo) → Orders (Delayed f) → ⊥
-delayed_idle f h = elim h [ ]
+-- a list with a link more whose ordering was joined
+pub order_pushed : (rows grown : List ℕ) (ks more : List Link) (k : Link) (q : Sequence) → more ≡ ks ++ k ∷ [] → Orders k × (q.first ≡ from k) × (q.second ≡ to k) →
+    ((x y : ℕ) → before grown x y ≡ joined (before rows) q.first q.second x y) → Heard rows ks → Meant rows ks → Heard grown more × Meant grown more
+order_pushed rows grown ks more k q added is same heard meant =
+    let ends : (x y : ℕ) → before grown x y ≡ joined (before rows) (from k) (to k) x y = λ x y. same x y ∙ (ap (λ a. joined (before rows) a q.second x y) is.1 ∙ ap (λ b. joined (before rows) (from k) b x y) is.2) in
+    (subst (Heard grown) (sym added) (heard_more rows grown ks k is.0 ends heard meant), subst (Meant grown) (sym added) (meant_more rows grown ks k is.0 ends heard meant))
 
--- where only the order can refuse a link, adding its ends judges it
-pub order_judged : (rows : List ℕ) (links : List Link) (k : Link) (j : Option Refusal) (added : Option Order) (r : Result Order Refusal) → Orders k → Heard rows links → Meant rows links →
-    j ≡ unless (may_join rows (from k) (to k)) Backward None → is_some added ≡ may_join rows (from k) (to k) →
-    IfSome added (λ o. (x y : ℕ) → before o.rows x y ≡ joined (before rows) (from k) (to k) x y) → r ≡ ok_or added Backward → JudgesOrder j (links ++ k ∷ []) r
-order_judged rows links k j added r orders heard meant so some same is = subst (JudgesOrder j (links ++ k ∷ [])) (sym is) (go added some same)
-  where
-    go : (o : Option Order) → is_some o ≡ may_join rows (from k) (to k) → IfSome o (λ q. (x y : ℕ) → before q.rows x y ≡ joined (before rows) (from k) (to k) x y) →
-        JudgesOrder j (links ++ k ∷ []) (ok_or o Backward)
-    go (Some o) e more = (so ∙ ap (λ b. unless b Backward None) (sym e), heard_more rows o.rows links k orders more heard meant, meant_more rows o.rows links k orders more heard meant)
-    go None e more = so ∙ ap (λ b. unless b Backward None) (sym e)
-
--- a FIFO with initial tokens leaves the order as it is
-pub delayed_order : (order : Order) (links : List Link) (f : Fifo) (j : Option Refusal) (r : Result Unit Refusal) (m : Result Order Refusal) → Heard order.rows links → Meant order.rows links →
-    Judges j r → MatchResult r (λ _. m ≡ Ok order) (λ e. m ≡ Err e) → JudgesOrder j (links ++ Delayed f ∷ []) m
-delayed_order order links f j (Ok u) m heard meant judged is =
-    subst (JudgesOrder j (links ++ Delayed f ∷ [])) (sym is) (judged, heard_delayed order.rows links (Delayed f) (delayed_idle f) heard, meant_delayed order.rows links (Delayed f) (delayed_idle f) meant)
-delayed_order order links f j (Err e) m heard meant judged is = subst (JudgesOrder j (links ++ Delayed f ∷ [])) (sym is) judged
+-- and with one that makes none
+pub order_kept : (rows : List ℕ) (ks more : List Link) (k : Link) → more ≡ ks ++ k ∷ [] → (Orders k → ⊥) → Heard rows ks → Meant rows ks → Heard rows more × Meant rows more
+order_kept rows ks more k added idle heard meant =
+    (subst (Heard rows) (sym added) (heard_delayed rows ks k idle heard), subst (Meant rows) (sym added) (meant_delayed rows ks k idle meant))

@@ -16,14 +16,13 @@ use Rattle.graph.specs.declared.faults.Refusal.{Refusal}
 use Rattle.graph.specs.declared.read_sheet.ReadSheet.{ReadSheet}
 use Rattle.graph.specs.Stages.{is_ruled}
 use Rattle.graph.specs.Judging.{judge_machine, judge_fit, judge_layer, judge_actor, judge_fifo, judge_plain, judge_sequence}
-use Rattle.graph.specs.declared.order.Order.{Order}
 use Rattle.graph.specs.declared.faults.GraphFault.{GraphFault}
 use Rattle.graph.specs.declared.faults.GraphFault.TheVariants.{Refused}
 use Rattle.rules.specs.Lists.{Lowest}
 use Rattle.std.specs.Prelude.{MatchResult}
 use Rattle.std.specs.Result.{IsErrAnd}
 use Rattle.std.proofs.lemmas.Result.{err_from_is_err_and}
-use Rattle.graph.specs.Taking.{refusal_number, Allowed, JudgesOrder, Took, TookBy, draft_of}
+use Rattle.graph.specs.Taking.{refusal_number, Allowed, Judges, Took, TookBy, draft_of}
 use Rattle.std.proofs.lemmas.List.{nil_from_length}
 use Rattle.graph.proofs.Judged.{Judgement, machine_judged, fit_judged, layer_judged, actor_judged}
 use Rattle.graph.proofs.JudgedLinks.{plain_judged, delayed_judged, sequence_judged}
@@ -48,15 +47,13 @@ pub rejected : (d : Draft) (e : Entry) (after : Draft) (r : Result Unit Refusal)
 rejected d e after (Ok u) m at f t mapped is = absurd (cc)
 rejected d e after (Err n) m at f t mapped is = let g = err_from_is_err_and m mapped in (n, t, cc)
 
--- and of a link with the order that it makes
-ordered : (d : Draft) (k : Link) (links : List Link) (j : Option Refusal) (r : Result Order Refusal) → Judgement d (NextLink k) j → JudgesOrder j links r → Allowed d k links r
-ordered d k links j (Ok o) judged by = (subst (Judgement d (NextLink k)) by.0 judged, by.1, by.2)
-ordered d k links j (Err f) judged by = subst (Judgement d (NextLink k)) by judged
+-- and of checks that change nothing
+decided_alone : (d : Draft) (e : Entry) (j : Option Refusal) (r : Result Unit Refusal) → Judgement d e j → Judges j r → Allowed d e r
+decided_alone d e j (Ok u) judged by = subst (Judgement d e) by judged
+decided_alone d e j (Err f) judged by = subst (Judgement d e) by judged
 
-pub allowed : (s : ReadSheet) (k l : Link) (j : Option Refusal) (r : Result Order Refusal) → k ≡ l → Judgement (draft_of s) (NextLink l) j → JudgesOrder j (vec_items s.links.list ++ l ∷ []) r →
-    Allowed (draft_of s) k (vec_items s.links.list ++ k ∷ []) r
-allowed s k l j r is judged by =
-    subst (λ (x : Link). Allowed (draft_of s) x (vec_items s.links.list ++ x ∷ []) r) (sym is) (ordered (draft_of s) l (vec_items s.links.list ++ l ∷ []) j r judged by)
+pub allowed : (s : ReadSheet) (k l : Link) (j : Option Refusal) (r : Result Unit Refusal) → k ≡ l → Judgement (draft_of s) (NextLink l) j → Judges j r → Allowed (draft_of s) (NextLink k) r
+allowed s k l j r is judged by = subst (λ (x : Link). Allowed (draft_of s) (NextLink x) r) (sym is) (decided_alone (draft_of s) (NextLink l) j r judged by)
 
 -- ---- what was read so far judges every entry as the rules do
 

@@ -4,16 +4,13 @@ use Rattle.rules.specs.declared.sheet.Layer.{Layer}
 use Rattle.rules.specs.declared.sheet.Actor.{Actor}
 use Rattle.rules.specs.declared.sheet.Link.{Link}
 use Rattle.rules.specs.declared.sheet.Entry.{Entry}
-use Rattle.rules.specs.declared.sheet.Entry.TheVariants.{NextLink}
 use Rattle.rules.specs.Lists.{Lowest}
 use Rattle.rules.specs.Drafts.{Draft, nothing, machined, sheet, Free, Refuses, next}
 use Rattle.graph.specs.declared.faults.Refusal.{Refusal}
 use Rattle.graph.specs.declared.faults.Refusal.TheVariants.{OutOfTurn, OffRange, Unknown, TooMany, EqualEnds, AcrossCores, Backward}
 use Rattle.graph.specs.declared.stage.Stage.{Stage}
 use Rattle.graph.specs.declared.stage.Stage.TheVariants.{Blank, Machined, Ruled}
-use Rattle.graph.specs.declared.order.Order.{Order}
 use Rattle.graph.specs.declared.read_sheet.ReadSheet.{ReadSheet}
-use Rattle.graph.specs.Orders.{Heard, Meant}
 
 -- the number of a refusal in the table
 abbrev pub refusal_number : Refusal → ℕ
@@ -49,12 +46,7 @@ abbrev pub Judges : Option Refusal → Result Unit Refusal → Type 0
 Judges j (Ok u) = j ≡ None
 Judges j (Err f) = j ≡ Some f
 
--- the same of checks that give the order of these links
-abbrev pub JudgesOrder : Option Refusal → List Link → Result Order Refusal → Type 0
-JudgesOrder j links (Ok o) = (j ≡ None) × Heard o.rows links × Meant o.rows links
-JudgesOrder j links (Err f) = j ≡ Some f
-
--- a link may be taken, and these are all the links with their order, or it met a refusal and none with a lower number
-abbrev pub Allowed : Draft → Link → List Link → Result Order Refusal → Type 0
-Allowed d k links (Ok o) = Free d (NextLink k) × Heard o.rows links × Meant o.rows links
-Allowed d k links (Err f) = Lowest (Refuses d (NextLink k)) (refusal_number f)
+-- the outcome of checks by the rules: no refusal meets the entry, or this one does and none with a lower number
+abbrev pub Allowed : Draft → Entry → Result Unit Refusal → Type 0
+Allowed d e (Ok u) = Free d e
+Allowed d e (Err f) = Lowest (Refuses d e) (refusal_number f)

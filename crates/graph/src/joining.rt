@@ -1,19 +1,17 @@
 // Taking a link.
 
-ghost use Rattle.std.specs.Prelude.{◌≡◌, ◌+◌, ◌<◌, ◌≤◌, [], ◌∷◌, ◌++◌, length, None, MatchOption, vec_len, ◌==◌};
+ghost use Rattle.std.specs.Prelude.{◌≡◌, ◌+◌, ◌<◌, ◌≤◌, [], ◌∷◌, length, None, MatchOption, vec_len, ◌==◌};
 ghost use Rattle.graph.specs.Judging.{judge_fifo, judge_plain, judge_sequence};
 ghost use Rattle.graph.specs.Ranges.{size_in_range};
-ghost use Rattle.graph.specs.Taking.{Allowed, Judges, JudgesOrder, Took, draft_of};
+ghost use Rattle.graph.specs.Taking.{Allowed, Judges, Took, draft_of};
 ghost use Rattle.rules.specs.Objects.{buffer, buffers};
 ghost use Rattle.rules.specs.Sheets.{core_in};
 ghost use Rattle.rules.specs.declared.sheet.Entry.TheVariants.{NextLink};
-ghost use Rattle.rules.specs.declared.sheet.Link.TheVariants.{Ordered, Plain};
 ghost use Rattle.text.specs.Bounds.{link_count};
 
 use crate::faults::Refusal;
 use crate::links::MOST_FIFOS;
 use crate::objects::MOST_BYTES;
-use crate::order::Order;
 use crate::read_sheet::ReadSheet;
 use rules::memory::Object;
 use rules::sheet::{Entry, Fifo, Link, Sequence};
@@ -69,16 +67,18 @@ impl ReadSheet {
         Ok(())
     }
 
-    // The order with a FIFO without initial tokens, whose producer is before its consumer.
-    fn judge_plain(&self, fifo: Fifo) -> Result<Order, Refusal>
-        ensures { JudgesOrder (judge_plain (vec_len self.now.actors) self.now.links.fifos self.now.links.order.rows fifo) (self.now.links.list.items ++ Plain fifo ∷ []) result }
+    // The checks of a FIFO without initial tokens, whose producer is before its consumer.
+    fn judge_plain(&self, fifo: Fifo) -> Result<(), Refusal>
+        ensures { Judges (judge_plain (vec_len self.now.actors) self.now.links.fifos self.now.links.order.rows fifo) result }
     {
         self.judge_fifo(fifo)?;
         if fifo.from == fifo.to {
             return Err(Refusal::EqualEnds);
         }
-        let order = self.links.order.adding(fifo.from, fifo.to);
-        order.ok_or(Refusal::Backward)
+        if !self.links.order.allows(fifo.from, fifo.to) {
+            return Err(Refusal::Backward);
+        }
+        Ok(())
     }
 
     // Whether two actors share a core.
@@ -90,9 +90,9 @@ impl ReadSheet {
         self.actors[a].core == self.actors[b].core
     }
 
-    // The order with an ordering of two actors.
-    fn judge_sequence(&self, sequence: Sequence) -> Result<Order, Refusal>
-        ensures { JudgesOrder (judge_sequence (vec_len self.now.actors) (core_in self.now.actors.items) self.now.links.order.rows sequence) (self.now.links.list.items ++ Ordered sequence ∷ []) result }
+    // The checks of an ordering of two actors.
+    fn judge_sequence(&self, sequence: Sequence) -> Result<(), Refusal>
+        ensures { Judges (judge_sequence (vec_len self.now.actors) (core_in self.now.actors.items) self.now.links.order.rows sequence) result }
     {
         let known = self.actors.len();
         if known == 0 {
@@ -109,17 +109,19 @@ impl ReadSheet {
         if !self.on_one_core(first, second) {
             return Err(Refusal::AcrossCores);
         }
-        let order = self.links.order.adding(sequence.first, sequence.second);
-        order.ok_or(Refusal::Backward)
+        if !self.links.order.allows(sequence.first, sequence.second) {
+            return Err(Refusal::Backward);
+        }
+        Ok(())
     }
 
-    // The order with one link more, or why the link is refused.
-    fn judge(&self, link: Link) -> Result<Order, Refusal>
-        ensures { Allowed (draft_of self.now) link (self.now.links.list.items ++ link ∷ []) result }
+    // Refuses a link that may not be taken.
+    fn judge(&self, link: Link) -> Result<(), Refusal>
+        ensures { Allowed (draft_of self.now) (NextLink link) result }
     {
         match link {
             Link::Plain(fifo) => self.judge_plain(fifo),
-            Link::Delayed(fifo) => self.judge_fifo(fifo).map(|()| self.links.order),
+            Link::Delayed(fifo) => self.judge_fifo(fifo),
             Link::Ordered(sequence) => self.judge_sequence(sequence),
         }
     }
@@ -128,8 +130,8 @@ impl ReadSheet {
         requires { vec_len self.old.links.list < 10922 }
         ensures { Took (draft_of self.old) (NextLink link) (draft_of self.new) result }
     {
-        let order = self.judge(link)?;
-        self.links.push(link, order);
+        self.judge(link)?;
+        self.links.push(link);
         if let Some(object) = object_of(link) {
             self.objects.push(object);
         }

@@ -1,11 +1,12 @@
 // The links of a sheet.
 
-ghost use Rattle.std.specs.Prelude.{◌≡◌, ◌+◌, ◌<◌, ◌≤◌, [], ◌∷◌, ◌++◌, IfOk, vec_len, vec_capacity};
+ghost use Rattle.std.specs.Prelude.{◌≡◌, ◌+◌, ◌<◌, ◌≤◌, [], ◌∷◌, ◌++◌, true, IfOk, MatchOption, vec_len, vec_capacity};
 ghost use Rattle.graph.specs.Orders.{Heard, Meant};
-ghost use Rattle.rules.specs.Drafts.{fifo_count};
+ghost use Rattle.graph.specs.Rows.{may_join};
+ghost use Rattle.rules.specs.Drafts.{Orders, fifo_count, from, to};
 
 use crate::order::Order;
-use rules::sheet::Link;
+use rules::sheet::{Link, Sequence};
 use std::alloc::{AllocError, Global};
 
 pub const MOST_FIFOS: usize = 192;
@@ -36,6 +37,20 @@ fn fifos_of(link: Link) -> usize
     }
 }
 
+// The ordering that a link makes; a FIFO with initial tokens makes none.
+fn ordering_of(link: Link) -> Option<Sequence>
+    ensures { MatchOption result (Orders link → ⊥) (λ q. Orders link × (q.first ≡ from link) × (q.second ≡ to link)) }
+{
+    match link {
+        Link::Plain(fifo) => Some(Sequence {
+            first: fifo.from,
+            second: fifo.to,
+        }),
+        Link::Delayed(_) => None,
+        Link::Ordered(sequence) => Some(sequence),
+    }
+}
+
 impl Links {
     pub(crate) fn new(heap: Global) -> Result<Links, AllocError>
         ensures { IfOk result (λ k. k.list.items ≡ []) }
@@ -57,17 +72,18 @@ impl Links {
         self.order = Order::none();
     }
 
-    // One link more, and the order that all then make.
-    pub(crate) fn push(&mut self, link: Link, order: Order)
+    // One link more, in the order too if it orders its ends.
+    pub(crate) fn push(&mut self, link: Link)
         requires room { vec_len self.old.list < 10922 }
         requires few { self.old.fifos + fifo_count (link ∷ []) ≤ 192 }
-        requires heard { Heard order.rows (self.old.list.items ++ link ∷ []) }
-        requires meant { Meant order.rows (self.old.list.items ++ link ∷ []) }
+        requires allowed { Orders link → may_join self.old.order.rows (from link) (to link) ≡ true }
         ensures items { self.new.list.items ≡ self.old.list.items ++ link ∷ [] }
         ensures fifos { self.new.fifos ≡ self.old.fifos + fifo_count (link ∷ []) }
     {
         self.list.push_reserved(link);
         self.fifos += fifos_of(link);
-        self.order = order;
+        if let Some(pair) = ordering_of(link) {
+            self.order.join(pair.first, pair.second);
+        }
     }
 }

@@ -1,7 +1,4 @@
-use Rattle.std.proofs.Common.{◌≡◌, Ok, Err, vec_items, rules}
-use Rattle.std.specs.Prelude.{MatchResult}
 use Rattle.rules.specs.declared.sheet.Link.TheVariants.{Plain, Delayed, Ordered}
-use Rattle.graph.proofs.Ties.{delayed_order}
 use Rattle.graph.proofs.Took.{allowed, sheet_plain, sheet_delayed, sheet_sequence}
 use Rattle.graph.proofs.read_sheet.ReadSheet.judge.Goals as goal
 
@@ -15,9 +12,7 @@ pub returns-in-Delayed : goal.returns-in-Delayed
 returns-in-Delayed c =
     let s = c.args.self.now in
     let f = c.in-Delayed.fifo in
-    let mapped : MatchResult c.judge_fifo.result (λ _. c.map.result ≡ Ok s.links.order) (λ e. c.map.result ≡ Err e) = search rules in
-    allowed s c.args.link (Delayed f) _ c.map.result c.in-Delayed.is (sheet_delayed s f)
-    (delayed_order s.links.order (vec_items s.links.list) f _ c.judge_fifo.result c.map.result s.links.heard s.links.meant c.judge_fifo.ensures mapped)
+    allowed s c.args.link (Delayed f) _ c.judge_fifo.result c.in-Delayed.is (sheet_delayed s f) c.judge_fifo.ensures
 
 pub returns-in-Ordered : goal.returns-in-Ordered
 returns-in-Ordered c =
