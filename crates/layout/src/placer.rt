@@ -16,6 +16,7 @@ pub(crate) struct Placer<'a, W: ObjectSet, R: FitRule> {
     pub(crate) world: &'a W,
     pub(crate) rule: &'a R,
     pub(crate) space: Space,
+    ghost numbered: { space.bank < 16 },
 }
 
 impl<W: ObjectSet, R: FitRule> Placer<'_, W, R> {

@@ -8,7 +8,7 @@ use crate::items::Items;
 use crate::placer::Placer;
 pub use crate::spots::MOST_BANKS;
 use crate::spots::Spot;
-use crate::turns::{Candidate, turns_of};
+use crate::turns::{Candidate, waiting_for};
 use fabric::Fabric;
 use fit::FitRule;
 use graph::object_set::ObjectSet;
@@ -85,7 +85,6 @@ impl Layout {
         requires known { x < W.ObjectSet.count placer.now.world.now }
         requires spotted { vec_len self.old.spots ≡ W.ObjectSet.count placer.now.world.now }
         requires room { vec_len self.old.items.list < 256 }
-        requires bank { placer.now.space.bank < 16 }
         ensures spots { vec_len self.new.spots ≡ vec_len self.old.spots }
         ensures banks { vec_len self.new.banks ≡ vec_len self.old.banks }
         ensures items { vec_len self.new.items.list ≤ vec_len self.old.items.list + 1 }
@@ -103,20 +102,15 @@ impl Layout {
         memory: &mut [Candidate],
     ) -> Result<(), LayoutFault>
         requires next { vec_len self.old.banks < 16 }
-        requires bank { placer.now.space.bank < 16 }
         requires spotted { vec_len self.old.spots ≡ W.ObjectSet.count placer.now.world.now }
         ensures spots { vec_len self.new.spots ≡ vec_len self.old.spots }
         ensures banks { vec_len self.new.banks ≤ vec_len self.old.banks + 1 }
     {
-        let turns = turns_of(
-            placer.world,
-            self.spots.as_slice(),
-            placer.space.bank,
-            memory,
-        )?;
+        let bank = placer.space.bank;
+        let mut queue = waiting_for(placer.world, self.spots.as_slice(), bank, memory)?;
         self.items.clear();
-        for x in turns.as_slice() {
-            self.take_turn(placer, *x)?;
+        while let Some(next) = queue.pop() {
+            self.take_turn(placer, next.object)?;
         }
         self.banks.push_reserved(BankUse {
             capacity: placer.space.capacity,
