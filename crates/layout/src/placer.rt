@@ -20,7 +20,7 @@ pub(crate) struct Placer<'a, W: ObjectSet, R: FitRule> {
 }
 
 impl<W: ObjectSet, R: FitRule> Placer<'_, W, R> {
-    // The bytes of x where the rule puts it, beside the items that exclude it.
+    // The item of x where the rule puts it, beside the items that exclude it.
     pub(crate) fn place(&self, x: u32, items: &[Item]) -> Result<Item, LayoutFault>
         requires known { x < W.ObjectSet.count self.now.world.now }
         requires few { length items.now < 256 }

@@ -23,13 +23,13 @@ pub struct BankUse {
 }
 
 // The spots of the objects, in the order of their numbers, and the banks.
-#[derive(Drop)]
+#[derive(Debug, PartialEq, Eq, Drop)]
 pub struct Layout {
     spots: Vec<Spot>,
     banks: Vec<BankUse>,
     // what lies in the bank that is being placed
     items: Items,
-    // kept: the tables are reserved once and stay, so that an Option can't hold them, and an empty plan is placed with empty tables
+    // kept: the memory of the tables is reserved once and stays with them, so that no Option holds them
     placed: bool,
     ghost spotting: { 256 ≤ vec_capacity spots },
     ghost spotted: { vec_len spots ≤ 256 },
@@ -63,11 +63,13 @@ impl Layout {
     }
 
     // Finds the homes of every object.
+    // kept: world and fabric are arguments of `fill`, and a struct of them would serve its two steps alone
     fn settle_homes<W: ObjectSet, F: Fabric>(&mut self, world: &W, fabric: &F)
         ensures spots { vec_len self.new.spots ≡ W.ObjectSet.count world.now }
         ensures banks { vec_len self.new.banks ≡ vec_len self.old.banks }
     {
         self.spots.clear();
+        // kept: a trait's objects are numbers and no slice, and `extend` may take memory
         for x in 0..world.len() {
             self.spots.push_reserved(Spot {
                 homes: fabric.homes(world.touching(x)),
@@ -109,6 +111,7 @@ impl Layout {
         let bank = placer.space.bank;
         let mut queue = waiting_for(placer.world, self.spots.as_slice(), bank, memory)?;
         self.items.clear();
+        // kept: a queue is emptied by `pop`, which leaves its order to the heap
         while let Some(next) = queue.pop() {
             self.take_turn(placer, next.object)?;
         }
@@ -131,6 +134,7 @@ impl Layout {
         requires empty { vec_len self.old.banks ≡ 0 }
         requires spotted { vec_len self.old.spots ≡ W.ObjectSet.count world.now }
     {
+        // kept: a fabric's banks are numbers and no slice
         for bank in 0..fabric.banks() {
             let space = Space {
                 bank,
