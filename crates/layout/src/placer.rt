@@ -6,6 +6,7 @@ use crate::asking::Space;
 use crate::faults::LayoutFault;
 use crate::gaps::find_gaps;
 use crate::items::Item;
+use arrayvec::ArrayVec;
 use fit::{FitRule, Question};
 use graph::object_set::ObjectSet;
 use rules::memory::Stretch;
@@ -28,7 +29,8 @@ impl<W: ObjectSet, R: FitRule> Placer<'_, W, R> {
         let blocking = items
             .iter()
             .filter(|item| self.world.excludes(item.object, x));
-        let gaps = find_gaps(blocking, self.space.capacity);
+        let mut gaps = ArrayVec::new();
+        find_gaps(blocking, self.space.capacity, &mut gaps);
         let size = self.world.size(x);
         let question = Question {
             gaps: gaps.as_slice(),
