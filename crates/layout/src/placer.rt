@@ -1,6 +1,6 @@
 // Asking the fit rule.
 
-ghost use Rattle.std.specs.Prelude.{◌<◌, length};
+ghost use Rattle.std.specs.Prelude.{◌≡◌, ◌+◌, ◌<◌, ◌≤◌, length, IfOk};
 
 use crate::asking::Space;
 use crate::faults::LayoutFault;
@@ -25,6 +25,9 @@ impl<W: ObjectSet, R: FitRule> Placer<'_, W, R> {
     pub(crate) fn place(&self, x: u32, items: &[Item]) -> Result<Item, LayoutFault>
         requires known { x < W.ObjectSet.count self.now.world.now }
         requires few { length items.now < 256 }
+        ensures object { IfOk result (λ item. item.object ≡ x) }
+        ensures bytes { IfOk result (λ item. item.on.end ≡ item.on.start + W.ObjectSet.sizes self.now.world.now x) }
+        ensures within { IfOk result (λ item. item.on.end ≤ self.now.space.capacity) }
     {
         let blocking = items
             .iter()
