@@ -21,7 +21,7 @@ fn next_sheet(input: &[u8]) -> Option<(&[u8], &[u8])>
 
 // Prints what one sheet gives.
 fn print_answer(rt: &HostRuntime, plan: &mut Plan, sheet: &[u8], out: &mut [u8]) -> io::Result<()> {
-    let mut memory = [Candidate { size: 0, object: 0 }; 256];
+    let mut memory = [Candidate::default(); 256];
     match plan.answer(sheet, &mut memory, out) {
         Ok(end) => rt.stdout().write_all(&out[0..end])?,
         Err(fault) => {

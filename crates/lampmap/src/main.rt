@@ -22,7 +22,7 @@ fn read_sheet(rt: &HostRuntime) -> io::Result<Vec<u8>> {
 fn main(rt: HostRuntime) -> anyhow::Result<()> {
     let text = read_sheet(&rt)?;
     let mut plan = Plan::new(rt.alloc())?;
-    let mut memory = [Candidate { size: 0, object: 0 }; 256];
+    let mut memory = [Candidate::default(); 256];
     let mut out = vec![in rt.alloc(); 0; MOST_MAP]?;
     match plan.answer(text.as_slice(), &mut memory, out.as_mut_slice()) {
         Ok(end) => {

@@ -1,36 +1,41 @@
-// The gaps that blocked stretches leave.
+// The gaps that items leave.
 
-ghost use Rattle.std.specs.Prelude.{◌≡◌, ◌+◌, ◌<◌, ◌≤◌, true, length, take};
+ghost use Rattle.std.specs.Prelude.{◌≡◌, ◌<◌, ◌≤◌, true};
+ghost use Rattle.std.specs.Iterator.{IsFinite, size};
 ghost use Rattle.rules.specs.Fitting.{ascend_from};
 ghost use Rattle.rules.specs.Stretches.{Every};
 
+use crate::items::Item;
+use arrayvec::ArrayVec;
+use fit::MOST_GAPS;
 use rules::memory::Stretch;
 
-// Writes the gaps below the capacity that the blocked stretches leave, and says how many they are.
-// The stretches come in the order of their starts, and may overlap.
-pub(crate) fn find_gaps(blocked: &[Stretch], capacity: u32, out: &mut [Stretch]) -> usize
-    requires filled { Every (λ s. s.start < s.end) blocked.now }
-    requires room { length blocked.now < length out.old }
-    ensures count { result ≤ length blocked.now + 1 }
-    ensures ascending { ascend_from 0 (take result out.new) ≡ true }
-    ensures within { Every (λ g. g.end ≤ capacity) (take result out.new) }
+// The gaps below the capacity that the items leave.
+// The items come in the order of their places, and may overlap.
+pub(crate) fn find_gaps<'a, I: Iterator<Item = &'a Item>>(
+    items: I,
+    capacity: u32,
+) -> ArrayVec<Stretch, MOST_GAPS>
+    requires can { I.can_next items }
+    requires ends { IsFinite (I.remaining items) }
+    requires few { size (I.remaining items) < 256 }
+    ensures ascending { ascend_from 0 result.items ≡ true }
+    ensures within { Every (λ g. g.end ≤ capacity) result.items }
 {
-    let mut n = 0;
+    let mut gaps = ArrayVec::new();
     let mut free = 0;
-    for s in blocked {
-        let end = s.start.min(capacity);
+    for item in items {
+        let end = item.on.start.min(capacity);
         if free < end {
-            out[n] = Stretch { start: free, end };
-            n += 1;
+            gaps.push(Stretch { start: free, end });
         }
-        free = free.max(s.end);
+        free = free.max(item.on.end);
     }
     if free < capacity {
-        out[n] = Stretch {
+        gaps.push(Stretch {
             start: free,
             end: capacity,
-        };
-        n += 1;
+        });
     }
-    n
+    gaps
 }

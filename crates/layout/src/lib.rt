@@ -2,9 +2,10 @@
 #![tactic(auto)]
 
 pub mod asking;
-pub mod bank;
-pub mod blocking;
-pub mod gaps;
+pub mod faults;
+mod gaps;
 pub mod items;
+mod placer;
 pub mod plan_layout;
+mod spots;
 pub mod turns;

@@ -1,10 +1,11 @@
 // How a call is refused, and what a refusal reports.
 
 ghost use Rattle.std.specs.Prelude.{◌≡◌, None, Some};
-ghost use Rattle.planner.specs.Reports.{at_line, fault_text, field_text, refusal_number, report_graph, report_of, report_text};
+ghost use Rattle.planner.specs.Reports.{at_line, fault_of, fault_text, field_text, refusal_number, report_graph, report_of, report_text};
 ghost use Rattle.planner.specs.declared.faults.JobFault.TheVariants.{Graph};
 
 use graph::faults::{GraphFault, Refusal};
+use layout::faults::LayoutFault;
 use std::fmt;
 use text::faults::TextFault;
 
@@ -29,6 +30,17 @@ impl From<GraphFault> for JobFault {
 
     fn from(f: GraphFault) -> JobFault {
         JobFault::Graph(f)
+    }
+}
+
+impl From<LayoutFault> for JobFault {
+    ghost from_gives = { λ f r. r ≡ fault_of f };
+
+    fn from(f: LayoutFault) -> JobFault {
+        match f {
+            LayoutFault::NoGap { object, bank } => JobFault::NoGap(object, bank),
+            LayoutFault::ShortMemory => JobFault::ShortMemory,
+        }
     }
 }
 
@@ -156,11 +168,14 @@ impl fmt::Display for Report {
     ghost output = { λ x. Some (fault_text x) };
 
     fn fmt<W: fmt::Write>(&self, f: &mut fmt::Formatter<W>) -> fmt::Result {
-        let number = self.number;
-        let layer = self.layer;
-        let line = Field(self.line);
-        let object = Field(self.object);
-        let bank = Field(self.bank);
-        write!(f, "E {number} {layer} {line} {object} {bank}")
+        write!(
+            f,
+            "E {} {} {} {} {}",
+            self.number,
+            self.layer,
+            Field(self.line),
+            Field(self.object),
+            Field(self.bank)
+        )
     }
 }

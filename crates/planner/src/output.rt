@@ -3,6 +3,7 @@
 ghost use Rattle.planner.specs.Output.{Writes};
 
 // Writes the bytes at the front, and answers where they end; nothing is written where they do not fit.
+// kept: the caller lends the memory.
 pub(crate) fn put_bytes(out: &mut [u8], bytes: &[u8]) -> Option<usize>
     ensures { Writes out.old bytes.now out.new result }
 {

@@ -53,9 +53,8 @@ impl Plan {
         let grain = Grain {
             bytes: machine.grain,
         };
-        self.layout
-            .fill(&self.graph, rule, fabric, grain, memory)
-            .map_err(|(object, bank)| JobFault::NoGap(object, bank))
+        self.layout.fill(&self.graph, rule, fabric, grain, memory)?;
+        Ok(())
     }
 
     // Places the objects by the sheet's own rule on its own fabric.
@@ -67,6 +66,7 @@ impl Plan {
     }
 
     // Reads a sheet, places it and writes its map.
+    // kept: the caller lends the memory.
     pub fn answer(
         &mut self,
         text: &[u8],
@@ -81,6 +81,7 @@ impl Plan {
     }
 
     // Writes the map into the caller's memory, and answers its length; a map that does not fit is not written.
+    // kept: as in `answer`.
     pub fn write_map(&self, out: &mut [u8]) -> Result<usize, JobFault>
         ensures within { IfOk result (λ end. end ≤ length out.new) }
         ensures refused { OnErr result (out.new ≡ out.old) }

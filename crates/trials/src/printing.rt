@@ -34,7 +34,7 @@ where
     requires { A.IsAlwaysCallable answer }
 {
     let mut plan = Plan::new(heap)?;
-    let mut memory = [Candidate { size: 0, object: 0 }; 256];
+    let mut memory = [Candidate::default(); 256];
     let mut out = vec![in heap; 0; MOST_MAP]?;
     match answer(&mut plan, &mut memory, out.as_mut_slice()) {
         Ok(end) => {

@@ -1,23 +1,27 @@
-use Rattle.std.proofs.Common.{◌<◌, take, arith}
-use Rattle.std.proofs.ByRecursion.{All-get_or}
-use Rattle.rules.specs.declared.memory.Stretch.{Stretch}
-use Rattle.layout.proofs.Ascents.{found_skip, found_write}
+use Rattle.std.proofs.Common.{arith}
+use Rattle.layout.proofs.Ascents.{found_skip, found_push}
 use Rattle.layout.proofs.gaps.find_gaps.Goals as goal
 use Rattle.layout.proofs.gaps.find_gaps.Goals.{then-free-end, else-free-end}
 
-pub loop-s-preserved : goal.loop-s-preserved
-loop-s-preserved c =
-    let some = All-get_or (λ (s : Stretch). s.start < s.end) c.args.blocked.now c.loop-s.s-index (record { start = 0; end = 0 }) c.loop-s-test.true c.requires.filled in
+pub loop-item-preserved : goal.loop-item-preserved
+loop-item-preserved g c =
+    let on = c.in-Some.ensures.goes.on c.loop-item.invariant.ends in
     elim c.if-free-end.branch [
-      | then-free-end w ↦
-          let f = found_write c.args.capacity c.loop-s.free c.min-end.result c.max-free.result c.loop-s.n c.loop-s.out (omega arith) w.if-free-end.true (omega arith) (omega arith) (omega arith) c.loop-s.invariant.2 in
-          (omega arith, omega arith, rw (w.n-is, w.out-is) f)
-      | else-free-end w ↦
-          let f = found_skip c.args.capacity c.loop-s.free c.max-free.result (take c.loop-s.n c.loop-s.out) (omega arith) c.loop-s.invariant.2 in
-          (omega arith, omega arith, rw (w.n-is, w.out-is) f)
+      | then-free-end w ↦ record {
+        can = on.0;
+        ends = on.1;
+        room = rw w.gaps-is (omega (arith, on.2));
+        found = rw (w.gaps-is, w.push.ensures.items) (found_push c.args.capacity c.loop-item.free c.min-end.result c.max-free.result c.loop-item.gaps.items w.if-free-end.true (omega arith) (omega arith) (omega arith) c.loop-item.invariant.found);
+      }
+      | else-free-end w ↦ record {
+        can = on.0;
+        ends = on.1;
+        room = rw w.gaps-is (omega (arith, on.2));
+        found = rw w.gaps-is (found_skip c.args.capacity c.loop-item.free c.max-free.result c.loop-item.gaps.items (omega arith) c.loop-item.invariant.found);
+      }
     ]
 
 pub returns-then-free-capacity : goal.returns-then-free-capacity
-returns-then-free-capacity c =
-    let f = found_write c.args.capacity c.loop-s.free c.args.capacity c.args.capacity c.loop-s.n c.loop-s.out (omega arith) (omega arith) (omega arith) (omega arith) (omega arith) c.loop-s.invariant.2 in
-    record { count = omega arith; ascending = f.ascending; within = f.within }
+returns-then-free-capacity g c =
+    let f = found_push c.args.capacity c.loop-item.free c.args.capacity c.args.capacity c.loop-item.gaps.items c.if-free-capacity.true (omega arith) (omega arith) (omega arith) c.loop-item.invariant.found in
+    rw c.push-then-free-capacity.ensures.items record { ascending = f.ascending; within = f.within }

@@ -1,0 +1,47 @@
+// Asking the fit rule.
+
+ghost use Rattle.std.specs.Prelude.{◌<◌, length};
+
+use crate::asking::Space;
+use crate::faults::LayoutFault;
+use crate::gaps::find_gaps;
+use crate::items::Item;
+use fit::{FitRule, Question};
+use graph::object_set::ObjectSet;
+use rules::memory::Stretch;
+
+// What decides where an object lies in a bank.
+#[derive(Drop)]
+pub(crate) struct Placer<'a, W: ObjectSet, R: FitRule> {
+    pub(crate) world: &'a W,
+    pub(crate) rule: &'a R,
+    pub(crate) space: Space,
+}
+
+impl<W: ObjectSet, R: FitRule> Placer<'_, W, R> {
+    // The bytes of x where the rule puts it, beside the items that exclude it.
+    pub(crate) fn place(&self, x: u32, items: &[Item]) -> Result<Item, LayoutFault>
+        requires known { x < W.ObjectSet.count self.now.world.now }
+        requires few { length items.now < 256 }
+    {
+        let blocking = items
+            .iter()
+            .filter(|item| self.world.excludes(item.object, x));
+        let gaps = find_gaps(blocking, self.space.capacity);
+        let size = self.world.size(x);
+        let question = Question {
+            gaps: gaps.as_slice(),
+            size,
+            grain: self.space.grain.bytes,
+        };
+        let (start, _) = self.rule.fit(question).ok_or(LayoutFault::NoGap {
+            object: x,
+            bank: self.space.bank,
+        })?;
+        let end = start + size;
+        Ok(Item {
+            object: x,
+            on: Stretch { start, end },
+        })
+    }
+}

@@ -1,0 +1,3 @@
+pub mod Orders
+pub mod Moves
+pub mod Fronts
