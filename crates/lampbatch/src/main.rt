@@ -2,6 +2,8 @@
 // A sheet comes as its length in decimal digits, byte 10, and its bytes; each answer ends with a line `.`.
 #![tactic(auto)]
 
+ghost use Rattle.std.specs.Prelude.{◌<◌, length, IfSome};
+
 use layout::turns::Candidate;
 use planner::map::MOST_MAP;
 use planner::plan::Plan;
@@ -10,25 +12,20 @@ use std::io::{Read, Write};
 use text::numbers::number;
 
 // The next sheet, and what follows it.
-fn next_sheet(input: &[u8]) -> Option<(&[u8], &[u8])> {
+fn next_sheet(input: &[u8]) -> Option<(&[u8], &[u8])>
+    ensures { IfSome result (λ p. length p.1.now < length input.now) }
+{
     let (length, rest) = number(input)?;
-    let [b'\n', body @ ..] = rest else {
-        return None;
-    };
-    if length as usize > body.len() {
-        return None;
-    }
-    Some(body.split_at(length as usize))
+    rest.strip_prefix(b"\n")?.split_at_checked(length as usize)
 }
 
 // Prints what one sheet gives.
 fn print_answer(rt: &HostRuntime, plan: &mut Plan, sheet: &[u8], out: &mut [u8]) -> io::Result<()> {
-    let mut memory = [Candidate { size: 0, object: 0 }; 256];
+    let mut memory = [Candidate::default(); 256];
     match plan.answer(sheet, &mut memory, out) {
         Ok(end) => rt.stdout().write_all(&out[0..end])?,
         Err(fault) => {
-            let report = fault.report();
-            println!(rt; "{report}")?;
+            println!(rt; "{}", fault.report())?;
         }
     }
     println!(rt; ".")
@@ -40,10 +37,7 @@ fn main(rt: HostRuntime) -> anyhow::Result<()> {
     let mut plan = Plan::new(rt.alloc())?;
     let mut out = vec![in rt.alloc(); 0; MOST_MAP]?;
     let mut rest = input.as_slice();
-    for _ in 0..input.len() {
-        let Some((sheet, more)) = next_sheet(rest) else {
-            break;
-        };
+    while let Some((sheet, more)) = next_sheet(rest) {
         print_answer(&rt, &mut plan, sheet, out.as_mut_slice())?;
         rest = more;
     }

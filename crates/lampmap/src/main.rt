@@ -8,25 +8,13 @@ use planner::plan::Plan;
 use std::io;
 use std::io::{Read, Write};
 
-// One byte more than a sheet may have: of a longer input no more is looked at.
-const MOST_READ: usize = 65_537;
+// One byte more than a sheet may have: of a longer input no more is read.
+const MOST_READ: u64 = 65_537;
 
-// The first bytes of the input, up to its end or to a few more than a sheet may have.
+// The first bytes of the input.
 fn read_sheet(rt: &HostRuntime) -> io::Result<Vec<u8>> {
     let mut text = Vec::new(rt.alloc());
-    let mut part = [0; 4096];
-    let mut input = rt.stdin();
-    // each turn reads a byte or more
-    for _ in 0..MOST_READ {
-        let n = input.read(&mut part)?;
-        if n == 0 {
-            break;
-        }
-        text.extend_from_slice(&part[0..n])?;
-        if text.len() >= MOST_READ {
-            break;
-        }
-    }
+    rt.stdin().take(MOST_READ).read_to_end(&mut text)?;
     Ok(text)
 }
 
@@ -34,7 +22,7 @@ fn read_sheet(rt: &HostRuntime) -> io::Result<Vec<u8>> {
 fn main(rt: HostRuntime) -> anyhow::Result<()> {
     let text = read_sheet(&rt)?;
     let mut plan = Plan::new(rt.alloc())?;
-    let mut memory = [Candidate { size: 0, object: 0 }; 256];
+    let mut memory = [Candidate::default(); 256];
     let mut out = vec![in rt.alloc(); 0; MOST_MAP]?;
     match plan.answer(text.as_slice(), &mut memory, out.as_mut_slice()) {
         Ok(end) => {
@@ -42,8 +30,7 @@ fn main(rt: HostRuntime) -> anyhow::Result<()> {
             Ok(())
         }
         Err(fault) => {
-            let report = fault.report();
-            println!(rt; "{report}")?;
+            println!(rt; "{}", fault.report())?;
             Err(anyhow!("the sheet is refused"))
         }
     }

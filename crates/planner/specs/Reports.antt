@@ -7,6 +7,8 @@ use Rattle.graph.specs.declared.faults.GraphFault.{GraphFault}
 use Rattle.graph.specs.declared.faults.GraphFault.TheVariants.{Text, Refused}
 use Rattle.graph.specs.declared.faults.Refusal.{Refusal}
 use Rattle.graph.specs.declared.faults.Refusal.TheVariants.{OutOfTurn, OffRange, Unknown, TooMany, EqualEnds, AcrossCores, Backward}
+use Rattle.layout.specs.declared.faults.LayoutFault.{LayoutFault}
+use Rattle.layout.specs.declared.faults.LayoutFault.TheVariants.{NoGap as Unheld, ShortMemory as Short}
 use Rattle.planner.specs.declared.faults.JobFault.{JobFault}
 use Rattle.planner.specs.declared.faults.JobFault.TheVariants.{Graph, Empty, Unplaced, LacksCore, NoGap, ShortMemory}
 use Rattle.planner.specs.declared.faults.Report.{Report}
@@ -35,6 +37,11 @@ refusal_number Backward = 10
 abbrev pub report_graph : GraphFault → Report
 report_graph (Text f) = report_text f
 report_graph (Refused f at) = at_line (refusal_number f) 2 (Some at)
+
+-- why objects are not placed
+abbrev pub fault_of : LayoutFault → JobFault
+fault_of (Unheld object bank) = NoGap object bank
+fault_of Short = ShortMemory
 
 -- layer 3: placing and what is asked of the places; layer 5: output
 abbrev pub report_of : JobFault → Report

@@ -1,10 +1,11 @@
 // How a call is refused, and what a refusal reports.
 
-ghost use Rattle.std.specs.Prelude.{◌≡◌, Some};
-ghost use Rattle.planner.specs.Reports.{fault_text, field_text, refusal_number, report_graph, report_of, report_text};
+ghost use Rattle.std.specs.Prelude.{◌≡◌, None, Some};
+ghost use Rattle.planner.specs.Reports.{at_line, fault_of, fault_text, field_text, refusal_number, report_graph, report_of, report_text};
 ghost use Rattle.planner.specs.declared.faults.JobFault.TheVariants.{Graph};
 
 use graph::faults::{GraphFault, Refusal};
+use layout::faults::LayoutFault;
 use std::fmt;
 use text::faults::TextFault;
 
@@ -32,8 +33,19 @@ impl From<GraphFault> for JobFault {
     }
 }
 
+impl From<LayoutFault> for JobFault {
+    ghost from_gives = { λ f r. r ≡ fault_of f };
+
+    fn from(f: LayoutFault) -> JobFault {
+        match f {
+            LayoutFault::NoGap { object, bank } => JobFault::NoGap(object, bank),
+            LayoutFault::ShortMemory => JobFault::ShortMemory,
+        }
+    }
+}
+
 // A fault as its number, its layer, and the line, object and bank where they stand.
-#[derive(Clone, Copy)]
+#[derive(Clone, Copy, Debug, PartialEq, Eq)]
 pub struct Report {
     pub number: u32,
     pub layer: u32,
@@ -42,52 +54,88 @@ pub struct Report {
     pub bank: Option<u32>,
 }
 
-// The report of a badly written text.
-fn report_text(f: TextFault) -> Report
-    ensures { result ≡ report_text f }
-{
-    let (number, line) = match f {
-        TextFault::TooLong => (1, None),
-        TextFault::NoHeader => (2, Some(1)),
-        TextFault::Malformed(at) => (3, Some(at)),
-    };
-    Report {
-        number,
-        layer: 1,
-        line,
-        object: None,
-        bank: None,
-    }
-}
-
-// The number of a refused line.
-fn refusal_number(f: Refusal) -> u32
-    ensures { result ≡ refusal_number f }
-{
-    match f {
-        Refusal::OutOfTurn => 4,
-        Refusal::OffRange => 5,
-        Refusal::Unknown => 6,
-        Refusal::TooMany => 7,
-        Refusal::EqualEnds => 8,
-        Refusal::AcrossCores => 9,
-        Refusal::Backward => 10,
-    }
-}
-
-// The report of a refused reading.
-fn report_graph(f: GraphFault) -> Report
-    ensures { result ≡ report_graph f }
-{
-    match f {
-        GraphFault::Text(f) => report_text(f),
-        GraphFault::Refused(f, at) => Report {
-            number: refusal_number(f),
-            layer: 2,
-            line: Some(at),
+impl Report {
+    // A report that names no line, object or bank.
+    fn of(number: u32, layer: u32) -> Report
+        ensures { result ≡ at_line number layer None }
+    {
+        Report {
+            number,
+            layer,
+            line: None,
             object: None,
             bank: None,
-        },
+        }
+    }
+}
+
+// A badly written text.
+impl From<TextFault> for Report {
+    ghost from_gives = { λ f r. r ≡ report_text f };
+
+    fn from(f: TextFault) -> Report {
+        match f {
+            TextFault::TooLong => Report::of(1, 1),
+            TextFault::NoHeader => Report {
+                line: Some(1),
+                ..Report::of(2, 1)
+            },
+            TextFault::Malformed(at) => Report {
+                line: Some(at),
+                ..Report::of(3, 1)
+            },
+        }
+    }
+}
+
+// A refused line, whichever it is.
+impl From<Refusal> for Report {
+    ghost from_gives = { λ f r. r ≡ at_line (refusal_number f) 2 None };
+
+    fn from(f: Refusal) -> Report {
+        let number = match f {
+            Refusal::OutOfTurn => 4,
+            Refusal::OffRange => 5,
+            Refusal::Unknown => 6,
+            Refusal::TooMany => 7,
+            Refusal::EqualEnds => 8,
+            Refusal::AcrossCores => 9,
+            Refusal::Backward => 10,
+        };
+        Report::of(number, 2)
+    }
+}
+
+// A refused reading.
+impl From<GraphFault> for Report {
+    ghost from_gives = { λ f r. r ≡ report_graph f };
+
+    fn from(f: GraphFault) -> Report {
+        match f {
+            GraphFault::Text(f) => f.into(),
+            GraphFault::Refused(f, at) => Report {
+                line: Some(at),
+                ..Report::from(f)
+            },
+        }
+    }
+}
+
+impl From<JobFault> for Report {
+    ghost from_gives = { λ f r. r ≡ report_of f };
+
+    fn from(f: JobFault) -> Report {
+        match f {
+            JobFault::Graph(f) => f.into(),
+            JobFault::Empty | JobFault::Unplaced => Report::of(4, 3),
+            JobFault::LacksCore => Report::of(6, 3),
+            JobFault::NoGap(object, bank) => Report {
+                object: Some(object),
+                bank: Some(bank),
+                ..Report::of(11, 3)
+            },
+            JobFault::ShortMemory => Report::of(16, 5),
+        }
     }
 }
 
@@ -96,29 +144,7 @@ impl JobFault {
     pub fn report(&self) -> Report
         ensures { result ≡ report_of self.now }
     {
-        let (number, layer) = match *self {
-            JobFault::Graph(f) => return report_graph(f),
-            JobFault::NoGap(object, bank) => {
-                return Report {
-                    number: 11,
-                    layer: 3,
-                    line: None,
-                    object: Some(object),
-                    bank: Some(bank),
-                };
-            }
-            JobFault::Empty => (4, 3),
-            JobFault::Unplaced => (4, 3),
-            JobFault::LacksCore => (6, 3),
-            JobFault::ShortMemory => (16, 5),
-        };
-        Report {
-            number,
-            layer,
-            line: None,
-            object: None,
-            bank: None,
-        }
+        (*self).into()
     }
 }
 
@@ -142,11 +168,14 @@ impl fmt::Display for Report {
     ghost output = { λ x. Some (fault_text x) };
 
     fn fmt<W: fmt::Write>(&self, f: &mut fmt::Formatter<W>) -> fmt::Result {
-        let number = self.number;
-        let layer = self.layer;
-        let line = Field(self.line);
-        let object = Field(self.object);
-        let bank = Field(self.bank);
-        write!(f, "E {number} {layer} {line} {object} {bank}")
+        write!(
+            f,
+            "E {} {} {} {} {}",
+            self.number,
+            self.layer,
+            Field(self.line),
+            Field(self.object),
+            Field(self.bank)
+        )
     }
 }

@@ -1,88 +1,52 @@
 // The printed map.
 
-ghost use Rattle.std.specs.Prelude.{◌≤◌, length, IfSome};
+ghost use Rattle.std.specs.Prelude.{◌≡◌, [], ◌∷◌, ◌++◌, OnOk};
+ghost use Rattle.rules.specs.Spelling.{number};
 
-use crate::output::{put_bytes, put_number};
-use layout::plan_layout::{BankUse, Layout};
-use words::{lowest, without_lowest};
+use arrayvec::ArrayString;
+use layout::plan_layout::Layout;
+use std::fmt;
+use std::fmt::Write;
 
 // Six bytes of header, at most 27 for each of 16 banks, and at most 20 for each of 256 objects in each bank.
 pub const MOST_MAP: usize = 82_358;
 
-// Writes the line `B bank footprint capacity`.
-fn put_bank(out: &mut [u8], at: usize, number: u32, bank: BankUse) -> Option<usize>
-    requires { at ≤ length out.old }
-    ensures { IfSome result (λ end. end ≤ length out.new) }
+// Room for the text of any map.
+pub(crate) type MapText = ArrayString<MOST_MAP>;
+
+// Writes a line: a letter and three numbers.
+fn put_line(map: &mut MapText, letter: &str, a: u32, b: u32, c: u32) -> fmt::Result
+    ensures { OnOk result (map.new.bytes ≡ map.old.bytes ++ (letter.now ++ (number a ++ (number b ++ (number c ++ 10 ∷ []))))) }
 {
-    let at = put_bytes(out, at, b"B ")?;
-    let at = put_number(out, at, number)?;
-    let at = put_bytes(out, at, b" ")?;
-    let at = put_number(out, at, bank.footprint)?;
-    let at = put_bytes(out, at, b" ")?;
-    let at = put_number(out, at, bank.capacity)?;
-    put_bytes(out, at, b"\n")
+    writeln!(map, "{letter} {a} {b} {c}")
 }
 
-// Writes the line `O object bank place`.
-fn put_place(out: &mut [u8], at: usize, object: u32, bank: u32, place: u32) -> Option<usize>
-    requires { at ≤ length out.old }
-    ensures { IfSome result (λ end. end ≤ length out.new) }
-{
-    let at = put_bytes(out, at, b"O ")?;
-    let at = put_number(out, at, object)?;
-    let at = put_bytes(out, at, b" ")?;
-    let at = put_number(out, at, bank)?;
-    let at = put_bytes(out, at, b" ")?;
-    let at = put_number(out, at, place)?;
-    put_bytes(out, at, b"\n")
-}
-
-// Writes a line for each bank.
-fn put_banks(out: &mut [u8], at: usize, banks: &[BankUse]) -> Option<usize>
-    requires within { at ≤ length out.old }
-    requires few { length banks.now ≤ 16 }
-    ensures { IfSome result (λ end. end ≤ length out.new) }
-{
-    let mut at = at;
-    for (number, bank) in banks.iter().enumerate() {
-        at = put_bank(out, at, number as u32, *bank)?;
+// Writes the line `B bank footprint capacity` of each bank.
+fn put_banks(map: &mut MapText, layout: &Layout) -> fmt::Result {
+    for (number, bank) in layout.banks().iter().enumerate() {
+        put_line(map, "B", number as u32, bank.footprint, bank.capacity)?;
     }
-    Some(at)
+    Ok(())
 }
 
-// Writes a line for each home of object x, by bank.
-fn put_homes(out: &mut [u8], at: usize, layout: &Layout, x: u32) -> Option<usize>
-    requires { at ≤ length out.old }
-    ensures { IfSome result (λ end. end ≤ length out.new) }
-{
-    let mut at = at;
-    let mut rest = layout.homes(x);
-    while let Some(bank) = lowest(rest) {
+// Writes the line `O object bank place` of each home of object x, by bank.
+fn put_homes(map: &mut MapText, layout: &Layout, x: u32) -> fmt::Result {
+    // kept: a layout is asked by the numbers that are printed, of object and bank
+    for bank in 0..layout.banks().len() as u32 {
         if let Some(place) = layout.place(x, bank) {
-            at = put_place(out, at, x, bank, place)?;
+            put_line(map, "O", x, bank, place)?;
         }
-        rest = without_lowest(rest);
     }
-    Some(at)
+    Ok(())
 }
 
-// Writes a line for each home, by object and bank.
-fn put_places(out: &mut [u8], at: usize, layout: &Layout) -> Option<usize>
-    requires { at ≤ length out.old }
-    ensures { IfSome result (λ end. end ≤ length out.new) }
-{
-    let mut at = at;
+// Writes the whole map.
+pub(crate) fn put_map(map: &mut MapText, layout: &Layout) -> fmt::Result {
+    map.write_str("LGM 1\n")?;
+    put_banks(map, layout)?;
+    // kept: as for the banks
     for x in 0..layout.len() {
-        at = put_homes(out, at, layout, x)?;
+        put_homes(map, layout, x)?;
     }
-    Some(at)
-}
-
-// Writes the whole map, and answers where it ends.
-pub(crate) fn put_map(out: &mut [u8], layout: &Layout) -> Option<usize>
-    ensures { IfSome result (λ end. end ≤ length out.new) }
-{
-    let at = put_bytes(out, 0, b"LGM 1\n")?;
-    let at = put_banks(out, at, layout.banks())?;
-    put_places(out, at, layout)
+    Ok(())
 }

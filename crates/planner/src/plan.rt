@@ -3,7 +3,7 @@
 ghost use Rattle.std.specs.Prelude.{◌≡◌, ◌≤◌, length, IfOk, OnErr};
 
 use crate::faults::JobFault;
-use crate::map::{MOST_MAP, put_map};
+use crate::map::{MapText, put_map};
 use crate::output::put_bytes;
 use fabric::{Fabric, SheetFabric};
 use fit::{FitRule, SheetRule};
@@ -43,9 +43,7 @@ impl Plan {
         fabric: &F,
         memory: &mut [Candidate],
     ) -> Result<(), JobFault> {
-        let Some((machine, _)) = self.graph.head() else {
-            return Err(JobFault::Empty);
-        };
+        let (machine, _) = self.graph.head().ok_or(JobFault::Empty)?;
         if memory.len() < self.graph.len() as usize {
             return Err(JobFault::ShortMemory);
         }
@@ -55,23 +53,20 @@ impl Plan {
         let grain = Grain {
             bytes: machine.grain,
         };
-        match self.layout.fill(&self.graph, rule, fabric, grain, memory) {
-            Ok(()) => Ok(()),
-            Err((object, bank)) => Err(JobFault::NoGap(object, bank)),
-        }
+        self.layout.fill(&self.graph, rule, fabric, grain, memory)?;
+        Ok(())
     }
 
     // Places the objects by the sheet's own rule on its own fabric.
     pub fn place(&mut self, memory: &mut [Candidate]) -> Result<(), JobFault> {
-        let Some((machine, fit)) = self.graph.head() else {
-            return Err(JobFault::Empty);
-        };
+        let (machine, fit) = self.graph.head().ok_or(JobFault::Empty)?;
         let rule = SheetRule::of(fit, self.graph.layers());
         let fabric = SheetFabric::of(&machine);
         self.place_with(&rule, &fabric, memory)
     }
 
     // Reads a sheet, places it and writes its map.
+    // kept: the caller lends the memory.
     pub fn answer(
         &mut self,
         text: &[u8],
@@ -86,6 +81,7 @@ impl Plan {
     }
 
     // Writes the map into the caller's memory, and answers its length; a map that does not fit is not written.
+    // kept: as in `answer`.
     pub fn write_map(&self, out: &mut [u8]) -> Result<usize, JobFault>
         ensures within { IfOk result (λ end. end ≤ length out.new) }
         ensures refused { OnErr result (out.new ≡ out.old) }
@@ -93,13 +89,8 @@ impl Plan {
         if !self.layout.is_placed() {
             return Err(JobFault::Unplaced);
         }
-        let mut buffer = [0; MOST_MAP];
-        let Some(end) = put_map(&mut buffer, &self.layout) else {
-            return Err(JobFault::ShortMemory);
-        };
-        match put_bytes(out, 0, &buffer[0..end]) {
-            Some(end) => Ok(end),
-            None => Err(JobFault::ShortMemory),
-        }
+        let mut map = MapText::new();
+        put_map(&mut map, &self.layout).map_err(|_| JobFault::ShortMemory)?;
+        put_bytes(out, map.as_str().as_bytes()).ok_or(JobFault::ShortMemory)
     }
 }

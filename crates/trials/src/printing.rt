@@ -10,13 +10,7 @@ use std::alloc::{AllocError, Global};
 
 // The map of a sheet, or its fault line.
 pub(crate) fn printed(heap: Global, text: &[u8]) -> Result<String, AllocError> {
-    let mut plan = Plan::new(heap)?;
-    let mut memory = [Candidate { size: 0, object: 0 }; 256];
-    let mut out = vec![in heap; 0; MOST_MAP]?;
-    match plan.answer(text, &mut memory, out.as_mut_slice()) {
-        Ok(end) => String::from_utf8_lossy(heap, &out.as_slice()[0..end]),
-        Err(fault) => fault_line(heap, fault),
-    }
+    printed_by(heap, |plan, memory, out| plan.answer(text, memory, out))
 }
 
 // The same for a sheet that the rule places on the fabric.
@@ -26,23 +20,27 @@ pub(crate) fn placed<R: FitRule, F: Fabric>(
     rule: &R,
     fabric: &F,
 ) -> Result<String, AllocError> {
-    let mut plan = Plan::new(heap)?;
-    let mut memory = [Candidate { size: 0, object: 0 }; 256];
-    let mut out = vec![in heap; 0; MOST_MAP]?;
-    if let Err(fault) = plan.read(text) {
-        return fault_line(heap, fault);
-    }
-    if let Err(fault) = plan.place_with(rule, fabric, &mut memory) {
-        return fault_line(heap, fault);
-    }
-    match plan.write_map(out.as_mut_slice()) {
-        Ok(end) => String::from_utf8_lossy(heap, &out.as_slice()[0..end]),
-        Err(fault) => fault_line(heap, fault),
-    }
+    printed_by(heap, |plan, memory, out| {
+        plan.read(text)?;
+        plan.place_with(rule, fabric, memory)?;
+        plan.write_map(out)
+    })
 }
 
-// The line of a fault.
-fn fault_line(heap: Global, fault: JobFault) -> Result<String, AllocError> {
-    let report = fault.report();
-    format!(in heap; "{report}\n")
+// What an answer of an empty plan prints: the map that it writes, or the line of its fault.
+fn printed_by<A>(heap: Global, answer: A) -> Result<String, AllocError>
+where
+    A: FnOnce(&mut Plan, &mut [Candidate], &mut [u8]) -> Result<usize, JobFault>,
+    requires { A.IsAlwaysCallable answer }
+{
+    let mut plan = Plan::new(heap)?;
+    let mut memory = [Candidate::default(); 256];
+    let mut out = vec![in heap; 0; MOST_MAP]?;
+    match answer(&mut plan, &mut memory, out.as_mut_slice()) {
+        Ok(end) => {
+            out.truncate(end);
+            String::from_utf8_lossy(heap, out.as_slice())
+        }
+        Err(fault) => format!(in heap; "{}\n", fault.report()),
+    }
 }
