@@ -1,13 +1,25 @@
 -- The laws of the digits of a word.
-use Rattle.std.proofs.Common.{◌≡◌, ℕ, zero, suc, ◌-◌, ◌/◌, ◌%◌, ◌^◌, ◌<◌, false, not, ◌&&◌, ◌||◌, eqb, sym, ap, ◌∙◌, arith, w64}
+use Rattle.std.proofs.Common.{◌≡◌, ℕ, zero, suc, ◌-◌, ◌/◌, ◌%◌, ◌^◌, ◌<◌, ◌≤◌, false, not, ◌&&◌, ◌||◌, eqb, sym, ap, ◌∙◌, arith, w64}
 use lib.Bits.{bit_and, bit_or}
 use lib.Count.{count_trailing_zeros}
-use Rattle.std.proofs.lemmas.Nat.Bits.{bit_at_lowest, bit_at-suc, bit_at-zero, bit_at_and, bit_at_or, bit_at-pow_same, bit_at-pow_other, bit_at-trailing_zeros, bit_at-lt}
+use Rattle.std.proofs.lemmas.Nat.Bits.{bit_at_lowest, bit_at-suc, bit_at-zero, bit_at_and, bit_at_or, bit_at-pow_same, bit_at-pow_other, bit_at-trailing_zeros, bit_at-lt, bit_at_above}
 use Rattle.std.proofs.lemmas.Bool.Decides.{nat_tests}
 use Rattle.words.specs.Words.{bit, Lowest}
 
 pub bit_zero : (k : ℕ) → bit 0 k ≡ false
 bit_zero k = ap (λ n. eqb n 1) (bit_at-zero k)
+
+-- a set of numbers below n has none from n on
+pub bit_high : (w n k : ℕ) → w < 2 ^ n → n ≤ k → bit w k ≡ false
+bit_high w n k below from = ap (λ d. eqb d 1) (bit_at_above w n k below from)
+
+-- the numbers but 0 are one more than those in half of the word
+pub bit_suc : (w k : ℕ) → bit w (suc k) ≡ bit (w / 2) k
+bit_suc w k = ap (λ d. eqb d 1) (bit_at-suc w k)
+
+-- number 0 is in no even word
+pub first_false : (w : ℕ) → w % 2 ≡ 0 → bit w 0 ≡ false
+first_false w even = ap (λ d. eqb d 1) (bit_at_lowest w ∙ even)
 
 pub bit_of_or : (a b k : ℕ) → bit (bit_or a b) k ≡ (bit a k || bit b k)
 bit_of_or a b k = grind (arith, nat_tests, bit_at_or a b k, bit_at-lt a k, bit_at-lt b k)
@@ -15,7 +27,7 @@ bit_of_or a b k = grind (arith, nat_tests, bit_at_or a b k, bit_at-lt a k, bit_a
 bit_of_and : (a b k : ℕ) → bit (bit_and a b) k ≡ (bit a k && bit b k)
 bit_of_and a b k = grind (arith, nat_tests, bit_at_and a b k, bit_at-lt a k, bit_at-lt b k)
 
-bit_pow : (j k : ℕ) → bit (2 ^ j) k ≡ eqb j k
+pub bit_pow : (j k : ℕ) → bit (2 ^ j) k ≡ eqb j k
 bit_pow j k = grind (arith, nat_tests, bit_at-pow_same, bit_at-pow_other)
 
 -- as code writes it, `w | 1 << k`
