@@ -1,7 +1,6 @@
 -- Lists of gaps that grow at their end.
 
-use Rattle.std.proofs.Common.{◌≡◌, ℕ, ◌+◌, ◌<◌, ◌≤◌, true, List, [], ◌∷◌, ◌++◌, length, take, set, sym, refl, subst, arith, rules}
-use Rattle.std.proofs.lemmas.List.{take_more_set}
+use Rattle.std.proofs.Common.{◌≡◌, ℕ, ◌<◌, ◌≤◌, true, List, [], ◌∷◌, ◌++◌, arith, rules}
 use Rattle.std.proofs.ByRecursion.{All-push, All-weaker}
 use Rattle.rules.specs.declared.memory.Stretch.{Stretch}
 use Rattle.rules.specs.Fitting.{ascend_from}
@@ -19,9 +18,6 @@ pub record Found (capacity free : ℕ) (gs : List Stretch) : Type 0 where
   pub ascending : ascend_from 0 gs ≡ true
   pub within : Every (λ g. g.end ≤ capacity) gs
   pub behind : Every (λ g. g.end ≤ free) gs
-
-pub found_none : (capacity : ℕ) → Found capacity 0 []
-found_none capacity = record { ascending = refl; within = tt; behind = tt }
 
 -- the bytes behind the gaps grow
 pub found_skip : (capacity free next : ℕ) (gs : List Stretch) → free ≤ next → Found capacity free gs → Found capacity next gs
@@ -41,9 +37,3 @@ found_push capacity free end next gs some fits small past f =
       within = All-push (λ (h : Stretch). h.end ≤ capacity) gs g f.within fits;
       behind = All-push (λ (h : Stretch). h.end ≤ next) gs g (found_skip capacity free next gs (omega arith) f).behind past;
     }
-
--- the same in a slice that is written at its next place
-pub found_write : (capacity free end next n : ℕ) (out : List Stretch) → n < length out → free < end → end ≤ capacity → capacity ≤ 4294967295 → end ≤ next → Found capacity free (take n out)
-    → Found capacity next (take (n + 1) (set out n (record { start = free; end = end })))
-found_write capacity free end next n out l some fits small past f =
-    subst (Found capacity next) (sym (take_more_set out n (record { start = free; end = end }) l)) (found_push capacity free end next (take n out) some fits small past f)

@@ -1,3 +1,3 @@
 mod Ascents
 mod Asked
-mod Writes
+mod Waits

@@ -1,6 +1,6 @@
 // The gaps that items leave.
 
-ghost use Rattle.std.specs.Prelude.{◌≡◌, ◌<◌, ◌≤◌, true};
+ghost use Rattle.std.specs.Prelude.{◌≡◌, ◌<◌, ◌≤◌, true, []};
 ghost use Rattle.std.specs.Iterator.{IsFinite, size};
 ghost use Rattle.rules.specs.Fitting.{ascend_from};
 ghost use Rattle.rules.specs.Stretches.{Every};
@@ -10,19 +10,20 @@ use arrayvec::ArrayVec;
 use fit::MOST_GAPS;
 use rules::memory::Stretch;
 
-// The gaps below the capacity that the items leave.
+// Finds the gaps below the capacity that the items leave.
 // The items come in the order of their places, and may overlap.
 pub(crate) fn find_gaps<'a, I: Iterator<Item = &'a Item>>(
     items: I,
     capacity: u32,
-) -> ArrayVec<Stretch, MOST_GAPS>
+    gaps: &mut ArrayVec<Stretch, MOST_GAPS>,
+)
     requires can { I.can_next items }
     requires ends { IsFinite (I.remaining items) }
     requires few { size (I.remaining items) < 256 }
-    ensures ascending { ascend_from 0 result.items ≡ true }
-    ensures within { Every (λ g. g.end ≤ capacity) result.items }
+    requires empty { gaps.old.items ≡ [] }
+    ensures ascending { ascend_from 0 gaps.new.items ≡ true }
+    ensures within { Every (λ g. g.end ≤ capacity) gaps.new.items }
 {
-    let mut gaps = ArrayVec::new();
     let mut free = 0;
     for item in items {
         let end = item.on.start.min(capacity);
@@ -37,5 +38,4 @@ pub(crate) fn find_gaps<'a, I: Iterator<Item = &'a Item>>(
             end: capacity,
         });
     }
-    gaps
 }

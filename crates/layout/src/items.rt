@@ -15,8 +15,8 @@ pub struct Item {
     ghost filled: { on.start < on.end },
 }
 
-// What lies in a bank, by place.
-#[derive(Drop)]
+// What lies in a bank, in the order of the places.
+#[derive(Debug, PartialEq, Eq, Drop)]
 pub(crate) struct Items {
     list: Vec<Item>,
     ghost room: { 256 ≤ vec_capacity list },

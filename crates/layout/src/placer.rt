@@ -6,6 +6,7 @@ use crate::asking::Space;
 use crate::faults::LayoutFault;
 use crate::gaps::find_gaps;
 use crate::items::Item;
+use arrayvec::ArrayVec;
 use fit::{FitRule, Question};
 use graph::object_set::ObjectSet;
 use rules::memory::Stretch;
@@ -16,10 +17,11 @@ pub(crate) struct Placer<'a, W: ObjectSet, R: FitRule> {
     pub(crate) world: &'a W,
     pub(crate) rule: &'a R,
     pub(crate) space: Space,
+    ghost numbered: { space.bank < 16 },
 }
 
 impl<W: ObjectSet, R: FitRule> Placer<'_, W, R> {
-    // The bytes of x where the rule puts it, beside the items that exclude it.
+    // The item of x where the rule puts it, beside the items that exclude it.
     pub(crate) fn place(&self, x: u32, items: &[Item]) -> Result<Item, LayoutFault>
         requires known { x < W.ObjectSet.count self.now.world.now }
         requires few { length items.now < 256 }
@@ -27,7 +29,8 @@ impl<W: ObjectSet, R: FitRule> Placer<'_, W, R> {
         let blocking = items
             .iter()
             .filter(|item| self.world.excludes(item.object, x));
-        let gaps = find_gaps(blocking, self.space.capacity);
+        let mut gaps = ArrayVec::new();
+        find_gaps(blocking, self.space.capacity, &mut gaps);
         let size = self.world.size(x);
         let question = Question {
             gaps: gaps.as_slice(),

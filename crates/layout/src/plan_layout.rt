@@ -8,7 +8,7 @@ use crate::items::Items;
 use crate::placer::Placer;
 pub use crate::spots::MOST_BANKS;
 use crate::spots::Spot;
-use crate::turns::{Candidate, turns_of};
+use crate::turns::{Candidate, waiting_for};
 use fabric::Fabric;
 use fit::FitRule;
 use graph::object_set::ObjectSet;
@@ -23,13 +23,13 @@ pub struct BankUse {
 }
 
 // The spots of the objects, in the order of their numbers, and the banks.
-#[derive(Drop)]
+#[derive(Debug, PartialEq, Eq, Drop)]
 pub struct Layout {
     spots: Vec<Spot>,
     banks: Vec<BankUse>,
     // what lies in the bank that is being placed
     items: Items,
-    // kept: the tables are reserved once and stay, so that an Option can't hold them, and an empty plan is placed with empty tables
+    // kept: the memory of the tables is reserved once and stays with them, so that no Option holds them
     placed: bool,
     ghost spotting: { 256 ≤ vec_capacity spots },
     ghost spotted: { vec_len spots ≤ 256 },
@@ -63,11 +63,13 @@ impl Layout {
     }
 
     // Finds the homes of every object.
+    // kept: world and fabric are arguments of `fill`, and a struct of them would serve its two steps alone
     fn settle_homes<W: ObjectSet, F: Fabric>(&mut self, world: &W, fabric: &F)
         ensures spots { vec_len self.new.spots ≡ W.ObjectSet.count world.now }
         ensures banks { vec_len self.new.banks ≡ vec_len self.old.banks }
     {
         self.spots.clear();
+        // kept: a trait's objects are numbers and no slice, and `extend` may take memory
         for x in 0..world.len() {
             self.spots.push_reserved(Spot {
                 homes: fabric.homes(world.touching(x)),
@@ -85,7 +87,6 @@ impl Layout {
         requires known { x < W.ObjectSet.count placer.now.world.now }
         requires spotted { vec_len self.old.spots ≡ W.ObjectSet.count placer.now.world.now }
         requires room { vec_len self.old.items.list < 256 }
-        requires bank { placer.now.space.bank < 16 }
         ensures spots { vec_len self.new.spots ≡ vec_len self.old.spots }
         ensures banks { vec_len self.new.banks ≡ vec_len self.old.banks }
         ensures items { vec_len self.new.items.list ≤ vec_len self.old.items.list + 1 }
@@ -103,20 +104,16 @@ impl Layout {
         memory: &mut [Candidate],
     ) -> Result<(), LayoutFault>
         requires next { vec_len self.old.banks < 16 }
-        requires bank { placer.now.space.bank < 16 }
         requires spotted { vec_len self.old.spots ≡ W.ObjectSet.count placer.now.world.now }
         ensures spots { vec_len self.new.spots ≡ vec_len self.old.spots }
         ensures banks { vec_len self.new.banks ≤ vec_len self.old.banks + 1 }
     {
-        let turns = turns_of(
-            placer.world,
-            self.spots.as_slice(),
-            placer.space.bank,
-            memory,
-        )?;
+        let bank = placer.space.bank;
+        let mut queue = waiting_for(placer.world, self.spots.as_slice(), bank, memory)?;
         self.items.clear();
-        for x in turns.as_slice() {
-            self.take_turn(placer, *x)?;
+        // kept: a queue is emptied by `pop`, which leaves its order to the heap
+        while let Some(next) = queue.pop() {
+            self.take_turn(placer, next.object)?;
         }
         self.banks.push_reserved(BankUse {
             capacity: placer.space.capacity,
@@ -137,6 +134,7 @@ impl Layout {
         requires empty { vec_len self.old.banks ≡ 0 }
         requires spotted { vec_len self.old.spots ≡ W.ObjectSet.count world.now }
     {
+        // kept: a fabric's banks are numbers and no slice
         for bank in 0..fabric.banks() {
             let space = Space {
                 bank,
