@@ -1,5 +1,5 @@
 -- The draft with one link more.
-use Rattle.std.proofs.Common.{◌≡◌, ℕ, ◌<◌, Bool, true, false, not, ◌&&◌, eqb, ltb, List, [], ◌∷◌, ◌++◌, length, get_or, Some, None, Option, sym, refl, ap, ◌∙◌, arith}
+use Rattle.std.proofs.Common.{◌≡◌, ℕ, ◌<◌, Bool, true, false, not, ◌&&◌, eqb, ltb, List, [], ◌∷◌, ◌++◌, length, get_or, Some, None, Option, sym, refl, ap, ◌∙◌}
 use Rattle.std.proofs.lemmas.List.{get_or-map}
 use Rattle.rules.specs.declared.sheet.Fifo.{Fifo}
 use Rattle.rules.specs.Sheets.{core_in}
@@ -34,7 +34,7 @@ refused_so actors fifos f rest r = go (not (eqb actors 0)) (size_in_range f.size
   where
     go : (a b c d : Bool) → unless a OutOfTurn (unless b OffRange (unless c Unknown (unless d TooMany None))) ≡ Some r
         → unless a OutOfTurn (unless b OffRange (unless c Unknown (unless d TooMany rest))) ≡ Some r
-    go true true true true e = absurd (let z : ◌≡◌ {A = ℕ} 0 1 = cc in omega arith)
+    go true true true true e = absurd (cc)
     go true true true false e = e
     go true true false d e = e
     go true false c d e = e

@@ -1,6 +1,6 @@
 -- The checks of a link are the refusals of the rules.
-use Rattle.std.proofs.Common.{◌≡◌, ℕ, ◌<◌, ◌≤◌, Bool, true, false, not, ◌&&◌, eqb, ltb, ◌⊎◌, List, length, None, Option, sym, refl, ap, subst, inl, inr, ⊎_elim, arith}
-use Rattle.std.proofs.lemmas.Bool.{and_parts, ltb-true, ltb-false, lt-ltb, eqb-true, eq-eqb, not-true, or_cases, or_right}
+use Rattle.std.proofs.Common.{◌≡◌, ℕ, ◌<◌, ◌≤◌, true, false, not, ◌&&◌, eqb, ltb, List, length, None, Option, sym, refl, ap, subst, ⊎_elim, arith}
+use Rattle.std.proofs.lemmas.Bool.{not-false, and_cases, and_parts, ltb-true, ltb-false, lt-ltb, eqb-true, eq-eqb, not-true, or_cases, or_right}
 use Rattle.rules.specs.declared.sheet.Layer.{Layer}
 use Rattle.rules.specs.declared.sheet.Actor.{Actor}
 use Rattle.rules.specs.declared.sheet.Fifo.{Fifo}
@@ -23,22 +23,10 @@ use Rattle.graph.specs.Rows.{before, up_to, may_join}
 use Rattle.graph.specs.Orders.{Heard, Meant}
 use Rattle.graph.specs.Judging.{unless, judge_fifo, judge_plain, judge_sequence}
 use Rattle.graph.specs.Taking.{draft_from}
-use Rattle.graph.proofs.Nils.{nil}
+use Rattle.std.proofs.lemmas.List.{nil_from_length}
 use Rattle.graph.proofs.Ranged.{refuted, size_told, size_heard}
 use Rattle.graph.proofs.Ties.{told}
 use Rattle.graph.proofs.Judged.{Judgement, checked, timely}
-
--- one of two tests fails
-and_fails : (a b : Bool) → (a && b) ≡ false → (a ≡ false) ⊎ (b ≡ false)
-and_fails true b e = inr e
-and_fails false b e = inl refl
-
-not_from : (u : Bool) → u ≡ false → not u ≡ true
-not_from u e = ap not e
-
-not_heard : (u : Bool) → not u ≡ false → u ≡ true
-not_heard true e = refl
-not_heard false e = sym e
 
 -- what the order allows: the second is not before the first
 allows : (rows : List ℕ) (links : List Link) → Heard rows links → (k : Link) → Orders k → may_join rows (from k) (to k) ≡ true → (d : Draft) → links_of d ≡ links → Linked (edges (links_of d)) (to k) (from k) → ⊥
@@ -49,21 +37,21 @@ allows rows links heard k orders t d same h =
     (or_right (eqb (to k) (from k)) (before rows (to k) (from k)) (heard (to k) (from k) (subst (λ ks. Linked (edges ks) (to k) (from k)) same h)))
 
 -- what it forbids: the second is before the first
-forbids : (rows : List ℕ) (links : List Link) → Meant rows links → (a b : ℕ) → a < 64 → b < 64 → (a ≡ b → ⊥) → may_join rows a b ≡ false → Linked (edges links) b a
+pub forbids : (rows : List ℕ) (links : List Link) → Meant rows links → (a b : ℕ) → a < 64 → b < 64 → (a ≡ b → ⊥) → may_join rows a b ≡ false → Linked (edges links) b a
 forbids rows links meant a b la lb differ f =
     ⊎_elim
     (λ x. absurd (refuted (ltb a 64) (lt-ltb a 64) x la))
     (λ y. ⊎_elim
     (λ x. absurd (refuted (ltb b 64) (lt-ltb b 64) x lb))
-    (λ z. ⊎_elim (λ e. absurd (differ (sym (eqb-true b a e)))) (λ h. told rows links meant b a h) (or_cases (eqb b a) (before rows b a) (not_heard (up_to (before rows) b a) z)))
-    (and_fails (ltb b 64) (not (up_to (before rows) b a)) y))
-    (and_fails (ltb a 64) (ltb b 64 && not (up_to (before rows) b a)) f)
+    (λ z. ⊎_elim (λ e. absurd (differ (sym (eqb-true b a e)))) (λ h. told rows links meant b a h) (or_cases (eqb b a) (before rows b a) (not-false (up_to (before rows) b a) z)))
+    (and_cases (ltb b 64) (not (up_to (before rows) b a)) y))
+    (and_cases (ltb a 64) (ltb b 64 && not (up_to (before rows) b a)) f)
 
 -- a link on a sheet that has no actor is out of turn
-no_actor : (stage : Stage) (layers : List Layer) (actors : List Actor) (links : List Link) (k : Link) → length actors ≡ 0 → InTurn (draft_from stage layers actors links) (NextLink k) → ⊥
+pub no_actor : (stage : Stage) (layers : List Layer) (actors : List Actor) (links : List Link) (k : Link) → length actors ≡ 0 → InTurn (draft_from stage layers actors links) (NextLink k) → ⊥
 no_actor Blank layers actors links k none t = turns t
 no_actor (Machined m) layers actors links k none t = turns t
-no_actor (Ruled m f) layers actors links k none t = turns t (nil actors none)
+no_actor (Ruled m f) layers actors links k none t = turns t (nil_from_length actors none)
 
 -- on one that has, it is in turn, and the draft has its actors and links
 pub record Peopled (stage : Stage) (layers : List Layer) (actors : List Actor) (links : List Link) : Type 0 where
@@ -90,7 +78,7 @@ fifo_judged stage layers actors links k f rest is-fifo e-from e-to so-range rang
     let e = NextLink k in
     let n = length actors in
     checked d e OutOfTurn (not (eqb n 0)) (unless (size_in_range f.size) OffRange (unless (ltb f.from n && ltb f.to n) Unknown (unless (ltb (fifo_count links) 192) TooMany rest))) (passed_none d e)
-    (λ clear. out_of_turn e (no_actor stage layers actors links k (eqb-true n 0 (not_heard (eqb n 0) clear))))
+    (λ clear. out_of_turn e (no_actor stage layers actors links k (eqb-true n 0 (not-false (eqb n 0) clear))))
     (λ t4.
     let here = some_actor stage layers actors links head (λ z. refuted (eqb n 0) (λ u. u) (not-true (eqb n 0) t4) (eq-eqb n 0 z)) in
     let p5 = timely d e (here.turn k) in
@@ -104,7 +92,7 @@ fifo_judged stage layers actors links k f rest is-fifo e-from e-to so-range rang
     (λ clear. ⊎_elim
     (λ x. unknown_from k (let l = ltb-false f.from n x in omega arith))
     (λ y. unknown_to k (let l = ltb-false f.to n y in omega arith))
-    (and_fails (ltb f.from n) (ltb f.to n) clear))
+    (and_cases (ltb f.from n) (ltb f.to n) clear))
     (λ t6.
     let ends = and_parts (ltb f.from n) (ltb f.to n) t6 in
     let l = ltb-true f.from n ends.0 in
@@ -134,7 +122,7 @@ plain_judged stage layers actors links rows f head few heard meant =
     fifo_judged stage layers actors links k f (unless (not (eqb f.from f.to)) EqualEnds (unless (may_join rows f.from f.to) Backward None)) (plain f) refl refl (λ r. r) (λ r. r) head
     (λ here l m p8.
     checked d e EqualEnds (not (eqb f.from f.to)) (unless (may_join rows f.from f.to) Backward None) p8
-    (λ clear. equal_ends k (by_fifo f) (eqb-true f.from f.to (not_heard (eqb f.from f.to) clear)))
+    (λ clear. equal_ends k (by_fifo f) (eqb-true f.from f.to (not-false (eqb f.from f.to) clear)))
     (λ t8.
     let differ : f.from ≡ f.to → ⊥ = λ same. refuted (eqb f.from f.to) (λ u. u) (not-true (eqb f.from f.to) t8) (eq-eqb f.from f.to same) in
     let p10 = passed_more d e 9 (passed_more d e 8 p8 (λ h. differ h.1)) (λ h. h) in
@@ -153,7 +141,7 @@ sequence_judged stage layers actors links rows q head few heard meant =
     let near = unless (eqb (core_in actors q.first) (core_in actors q.second)) AcrossCores ordered in
     let apart = unless (not (eqb q.first q.second)) EqualEnds near in
     checked d e OutOfTurn (not (eqb n 0)) (unless (ltb q.first n && ltb q.second n) Unknown apart) (passed_none d e)
-    (λ clear. out_of_turn e (no_actor stage layers actors links k (eqb-true n 0 (not_heard (eqb n 0) clear))))
+    (λ clear. out_of_turn e (no_actor stage layers actors links k (eqb-true n 0 (not-false (eqb n 0) clear))))
     (λ t4.
     let here = some_actor stage layers actors links head (λ z. refuted (eqb n 0) (λ u. u) (not-true (eqb n 0) t4) (eq-eqb n 0 z)) in
     let long : length (actors_of d) ≡ n = ap length here.same_actors in
@@ -162,14 +150,14 @@ sequence_judged stage layers actors links rows q head few heard meant =
     (λ clear. ⊎_elim
     (λ x. unknown_from k (let l = ltb-false q.first n x in omega arith))
     (λ y. unknown_to k (let l = ltb-false q.second n y in omega arith))
-    (and_fails (ltb q.first n) (ltb q.second n) clear))
+    (and_cases (ltb q.first n) (ltb q.second n) clear))
     (λ t6.
     let ends = and_parts (ltb q.first n) (ltb q.second n) t6 in
     let l = ltb-true q.first n ends.0 in
     let m = ltb-true q.second n ends.1 in
     let p8 = passed_more d e 7 (passed_more d e 6 p6 (λ h. ⊎_elim (λ u. omega arith) (λ u. omega arith) h)) (λ h. no_fifo h.0) in
     checked d e EqualEnds (not (eqb q.first q.second)) near p8
-    (λ clear. equal_ends k (by_sequence q) (eqb-true q.first q.second (not_heard (eqb q.first q.second) clear)))
+    (λ clear. equal_ends k (by_sequence q) (eqb-true q.first q.second (not-false (eqb q.first q.second) clear)))
     (λ t8.
     let differ : q.first ≡ q.second → ⊥ = λ same. refuted (eqb q.first q.second) (λ u. u) (not-true (eqb q.first q.second) t8) (eq-eqb q.first q.second same) in
     let p9 = passed_more d e 8 p8 (λ h. differ h.1) in

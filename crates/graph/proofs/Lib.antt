@@ -6,12 +6,12 @@ pub mod Ties
 pub mod Sets
 pub mod Kept
 pub mod Exclusive
-pub mod Nils
 pub mod Drafted
 pub mod Ranged
 pub mod Judged
 pub mod JudgedLinks
 pub mod Took
+pub mod Counted
 pub mod Endings
 pub mod Texts
 pub mod Told

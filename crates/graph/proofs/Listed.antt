@@ -1,57 +1,12 @@
--- Lists of objects that are kept as lines come.
-use Rattle.std.proofs.Common.{◌≡◌, ℕ, zero, suc, ◌+◌, ◌<◌, Bool, true, false, cond, ◌&&◌, eqb, List, [], ◌∷◌, ◌++◌, length, sym, refl, ap, ◌∙◌, subst, arith, ne_eqb}
-use Rattle.std.proofs.lemmas.Bool.{and_parts, and_from, eqb-true, eq-eqb}
+-- The objects of a sheet as lines come.
+use Rattle.std.proofs.Common.{◌≡◌, ℕ, zero, suc, ◌+◌, ◌<◌, true, false, cond, List, [], ◌∷◌, ◌++◌, length, sym, refl, ap, ◌∙◌, arith, ne_eqb}
 use Rattle.std.proofs.lemmas.List.{append_assoc, append-nil}
 use Rattle.rules.specs.declared.memory.Object.{Object}
 use Rattle.rules.specs.declared.sheet.Actor.{Actor}
-use Rattle.rules.specs.declared.sheet.Sequence.{Sequence}
 use Rattle.rules.specs.declared.sheet.Link.{Link}
 use Rattle.rules.specs.declared.sheet.Link.TheVariants.{Plain, Delayed, Ordered}
 use Rattle.rules.specs.Objects.{area_of, areas, buffer, buffers}
-use Rattle.graph.specs.Sizes.{alike, same_object, same_objects, objects_in}
-
-alike_same : (a b : Bool) → alike a b ≡ true → a ≡ b
-alike_same true true e = refl
-alike_same true false e = sym e
-alike_same false true e = e
-alike_same false false e = refl
-
-alike_itself : (a : Bool) → alike a a ≡ true
-alike_itself true = refl
-alike_itself false = refl
-
-object_same : (o p : Object) → same_object o p ≡ true → o ≡ p
-object_same o p t =
-    let a = and_parts (eqb o.producer p.producer) (eqb o.consumer p.consumer && (eqb o.size p.size && alike o.delayed p.delayed)) t in
-    let b = and_parts (eqb o.consumer p.consumer) (eqb o.size p.size && alike o.delayed p.delayed) a.1 in
-    let c = and_parts (eqb o.size p.size) (alike o.delayed p.delayed) b.1 in
-    let e1 = eqb-true o.producer p.producer a.0 in
-    let e2 = eqb-true o.consumer p.consumer b.0 in
-    let e3 = eqb-true o.size p.size c.0 in
-    let e4 = alike_same o.delayed p.delayed c.1 in
-    λ i. record { producer = e1 i; consumer = e2 i; size = e3 i; delayed = e4 i }
-
-object_itself : (o : Object) → same_object o o ≡ true
-object_itself o =
-    and_from _ _ (eq-eqb o.producer o.producer refl) (and_from _ _ (eq-eqb o.consumer o.consumer refl) (and_from _ _ (eq-eqb o.size o.size refl) (alike_itself o.delayed)))
-
--- the test says that the lists are equal
-pub objects_same : (os ps : List Object) → same_objects os ps ≡ true → os ≡ ps
-objects_same [] [] t = refl
-objects_same [] (p ∷ ps) t = absurd (let z : ◌≡◌ {A = ℕ} 0 1 = cc in omega arith)
-objects_same (o ∷ os) [] t = absurd (let z : ◌≡◌ {A = ℕ} 0 1 = cc in omega arith)
-objects_same (o ∷ os) (p ∷ ps) t =
-    let parts = and_parts (same_object o p) (same_objects os ps) t in
-    let e = object_same o p parts.0 in
-    let es = objects_same os ps parts.1 in
-    λ i. e i ∷ es i
-
-objects_themselves : (os : List Object) → same_objects os os ≡ true
-objects_themselves [] = refl
-objects_themselves (o ∷ os) = and_from _ _ (object_itself o) (objects_themselves os)
-
-pub same_from : (os ps : List Object) → os ≡ ps → same_objects os ps ≡ true
-same_from os ps e = subst (λ qs. same_objects os qs ≡ true) e (objects_themselves os)
+use Rattle.graph.specs.Sizes.{objects_in}
 
 -- one actor more
 areas_more : (n : ℕ) (actors : List Actor) (a : Actor) → areas n (actors ++ a ∷ []) ≡ areas n actors ++ area_of (n + length actors) a.work
@@ -79,40 +34,21 @@ pub link_listed : (actors : List Actor) (ks : List Link) (k : Link) → objects_
 link_listed actors ks k =
     ap (λ os. areas zero actors ++ os) (buffers_more ks k) ∙ sym (append_assoc (areas zero actors) (buffers ks) (buffers (k ∷ [])))
 
--- an actor with a working area
-pub area_pushed : (os grown : List Object) (actors more : List Actor) (links : List Link) (a : Actor) (n : ℕ) → same_objects os (objects_in actors links) ≡ true → links ≡ [] → 0 < a.work → n ≡ length actors →
-    grown ≡ os ++ record { producer = n; consumer = n; size = a.work; delayed = false } ∷ [] → more ≡ actors ++ a ∷ [] → same_objects grown (objects_in more links) ≡ true
-area_pushed os grown actors more links a n same none some number pushed added =
-    same_from grown (objects_in more links)
-    (pushed
-    ∙ (ap (λ m. os ++ record { producer = m; consumer = m; size = a.work; delayed = false } ∷ []) number
-    ∙ (ap (λ (qs : List Object). qs ++ record { producer = length actors; consumer = length actors; size = a.work; delayed = false } ∷ []) (objects_same os (objects_in actors links) same ∙ ap (objects_in actors) none)
-    ∙ (sym (ap (λ b. objects_in actors [] ++ cond b [] (record { producer = length actors; consumer = length actors; size = a.work; delayed = false } ∷ [])) (ne_eqb a.work 0 (λ e. omega arith)))
-    ∙ (sym (actor_listed actors a)
-    ∙ (ap (λ (xs : List Actor). objects_in xs []) (sym added) ∙ ap (objects_in more) (sym none)))))))
+-- the objects are those of the actors and links again, with one actor more
+pub actor_pushed : (os grown : List Object) (actors more : List Actor) (links : List Link) (a : Actor) → os ≡ objects_in actors links → links ≡ [] →
+    grown ≡ os ++ area_of (length actors) a.work → more ≡ actors ++ a ∷ [] → grown ≡ objects_in more links
+actor_pushed os grown actors more links a same none pushed added = let listed = actor_listed actors a in cc
 
--- an actor without one
-pub area_none : (os : List Object) (actors more : List Actor) (links : List Link) (a : Actor) → same_objects os (objects_in actors links) ≡ true → links ≡ [] → a.work ≡ 0 → more ≡ actors ++ a ∷ [] →
-    same_objects os (objects_in more links) ≡ true
-area_none os actors more links a same none idle added =
-    same_from os (objects_in more links)
-    (objects_same os (objects_in actors links) same
-    ∙ (ap (objects_in actors) none
-    ∙ (sym (append-nil (objects_in actors []))
-    ∙ (sym (ap (λ b. objects_in actors [] ++ cond b [] (record { producer = length actors; consumer = length actors; size = a.work; delayed = false } ∷ [])) (eq-eqb a.work 0 idle))
-    ∙ (sym (actor_listed actors a)
-    ∙ (ap (λ (xs : List Actor). objects_in xs []) (sym added) ∙ ap (objects_in more) (sym none)))))))
+-- and with one link more
+pub link_pushed : (os grown : List Object) (actors : List Actor) (links more : List Link) (k : Link) → os ≡ objects_in actors links →
+    grown ≡ os ++ buffers (k ∷ []) → more ≡ links ++ k ∷ [] → grown ≡ objects_in actors more
+link_pushed os grown actors links more k same pushed added = let listed = link_listed actors links k in cc
 
--- a FIFO, and an ordering, which is no object
-pub buffer_pushed : (os grown : List Object) (actors : List Actor) (links more : List Link) (k : Link) → same_objects os (objects_in actors links) ≡ true →
-    grown ≡ os ++ buffers (k ∷ []) → more ≡ links ++ k ∷ [] → same_objects grown (objects_in actors more) ≡ true
-buffer_pushed os grown actors links more k same pushed added =
-    same_from grown (objects_in actors more)
-    (pushed
-    ∙ (ap (λ (qs : List Object). qs ++ buffers (k ∷ [])) (objects_same os (objects_in actors links) same)
-    ∙ (sym (link_listed actors links k) ∙ ap (objects_in actors) (sym added))))
+-- the working area of an actor with work, and that of one without
+pub some_area : (n m work : ℕ) → n ≡ m → 0 < work → record { producer = n; consumer = n; size = work; delayed = false } ∷ [] ≡ area_of m work
+some_area n m work same some =
+    ap (λ i. record { producer = i; consumer = i; size = work; delayed = false } ∷ []) same
+    ∙ sym (ap (λ b. cond b [] (record { producer = m; consumer = m; size = work; delayed = false } ∷ [])) (ne_eqb work 0 (λ e. omega arith)))
 
-pub ordering_pushed : (os : List Object) (actors : List Actor) (links more : List Link) (q : Sequence) (b : Bool) → same_objects os (objects_in actors links) ≡ true →
-    more ≡ cond b (links ++ Ordered q ∷ []) links → same_objects os (objects_in actors more) ≡ true
-ordering_pushed os actors links more q true same added = buffer_pushed os os actors links more (Ordered q) same (sym (append-nil os)) added
-ordering_pushed os actors links more q false same added = subst (λ (ks : List Link). same_objects os (objects_in actors ks) ≡ true) (sym added) same
+pub no_area : (n work : ℕ) → work ≡ 0 → [] ≡ area_of n work
+no_area n work none = sym (ap (λ w. area_of n w) none)

@@ -1,5 +1,5 @@
 -- The tests of ranges say what the rules say.
-use Rattle.std.proofs.Common.{◌≡◌, ℕ, Bool, true, false, ◌&&◌, eqb, leb, sym, refl, ◌∙◌, arith}
+use Rattle.std.proofs.Common.{◌≡◌, ℕ, Bool, true, false, ◌&&◌, eqb, leb, refl}
 use Rattle.std.proofs.lemmas.Bool.{and_parts, and_from, leb-true, le-leb, eqb-true, eq-eqb}
 use Rattle.rules.specs.declared.sheet.Kind.{Kind}
 use Rattle.rules.specs.declared.sheet.Kind.TheVariants.{Unified, Private, Hybrid}
@@ -15,7 +15,7 @@ use Rattle.graph.specs.Judging.{layer_in_range}
 
 -- a test that came out false refutes what it tests
 pub refuted : {A : Type 0} (b : Bool) → (A → b ≡ true) → b ≡ false → A → ⊥
-refuted b so clear a = let z : true ≡ false = sym (so a) ∙ clear in let k : ◌≡◌ {A = ℕ} 0 1 = cc in omega arith
+refuted b so clear a = let set = so a in cc
 
 lacking_told : (k : Kind) (shared private : ℕ) → eqb (lacking k shared private) 0 ≡ true → Lacking k shared private
 lacking_told Unified shared private t = eqb-true private 0 t

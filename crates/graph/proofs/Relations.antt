@@ -1,5 +1,5 @@
 -- A transitive relation that relates nothing to itself stays so with one pair more.
-use Rattle.std.proofs.Common.{◌≡◌, ℕ, Bool, true, false, not, ◌&&◌, ◌||◌, eqb, sym, refl, ◌∙◌, subst, ⊎_elim, arith}
+use Rattle.std.proofs.Common.{◌≡◌, ℕ, Bool, true, false, not, ◌&&◌, ◌||◌, eqb, sym, refl, ◌∙◌, subst, ⊎_elim}
 use Rattle.std.proofs.lemmas.Bool.{or_cases, or_left, or_right, and_parts, and_from, eqb-true}
 use Rattle.graph.specs.Rows.{up_to, joined}
 
@@ -54,16 +54,13 @@ meets r t b x a p q =
 pub joined_irreflexive : (r : ℕ → ℕ → Bool) (a b : ℕ) → Through r → ((x : ℕ) → r x x ≡ false) → up_to r b a ≡ false → (x : ℕ) → joined r a b x x ≡ false
 joined_irreflexive r a b t never not_back x = go (joined r a b x x) refl
   where
-    clash : {u : Bool} → u ≡ false → u ≡ true → ⊥
-    clash e f = let z : false ≡ true = sym e ∙ f in let k : ◌≡◌ {A = ℕ} 0 1 = cc in omega arith
-
     go : (u : Bool) → joined r a b x x ≡ u → u ≡ false
     go false e = refl
     go true e =
         absurd
         (⊎_elim
-        (λ own. clash (never x) own)
-        (λ via. let v = and_parts (up_to r x a) (up_to r b x) via in clash not_back (meets r t b x a v.1 v.0))
+        (λ own. let not_own = never x in cc)
+        (λ via. let v = and_parts (up_to r x a) (up_to r b x) via in let back = meets r t b x a v.1 v.0 in cc)
         (or_cases (r x x) (up_to r x a && up_to r b x) e))
 
 -- relations that agree are transitive together

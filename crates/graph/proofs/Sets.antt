@@ -1,16 +1,13 @@
 -- Sets of numbers below 256 as four words.
-use Rattle.std.proofs.Common.{◌≡◌, ℕ, ◌+◌, ◌/◌, ◌%◌, ◌^◌, ◌<◌, ◌≤◌, Bool, true, false, not, ◌&&◌, ◌||◌, eqb, ltb, List, length, get_or, set, sym, refl, ap, ◌∙◌, ⊎_elim, arith, ne_eqb}
+use Rattle.std.proofs.Common.{◌≡◌, ℕ, ◌+◌, ◌/◌, ◌%◌, ◌^◌, ◌<◌, ◌≤◌, Bool, true, false, not, ◌&&◌, ◌||◌, eqb, ltb, List, length, get_or, set, sym, ap, ◌∙◌, ⊎_elim, arith, ne_eqb}
 use Rattle.std.proofs.lemmas.List.{get_or_past, get_or-set_same, get_or-set_other}
+use Rattle.std.proofs.Math.Bool.{or-false, and-true, and-false}
 use Rattle.std.proofs.lemmas.Bool.{cases_eq, cases_lt, eq-eqb, lt-ltb, le-ltb}
 use Rattle.words.specs.Words.{bit}
 use Rattle.words.proofs.Bits.{bit_zero}
 use Rattle.rules.specs.declared.memory.Object.{Object}
 use Rattle.graph.specs.Rows.{in_row}
 use Rattle.graph.specs.Excluding.{apart, excluding, object_at}
-
-or_none : (u : Bool) → (u || false) ≡ u
-or_none true = refl
-or_none false = refl
 
 -- four words have nothing from 256 on
 pub past_row : (words : List ℕ) (y : ℕ) → length words ≡ 4 → 256 ≤ y → in_row words y ≡ false
@@ -44,62 +41,45 @@ row_adds words w y l h bits z = ⊎_elim same other (cases_eq (z / 64) (y / 64))
     other : (z / 64 ≡ y / 64 → ⊥) → in_row (set words (y / 64) w) z ≡ (in_row words z || (ltb y 256 && eqb y z))
     other n =
         ap (λ v. bit v (z % 64)) (get_or-set_other words (y / 64) (z / 64) w 0 n)
-        ∙ (sym (or_none (in_row words z))
+        ∙ (sym (or-false (in_row words z))
         ∙ (ap (λ t. in_row words z || (true && t)) (sym (ne_eqb y z (λ e. n (ap (λ m. m / 64) (sym e)))))
         ∙ ap (λ t. in_row words z || (t && eqb y z)) (sym (lt-ltb y 256 h))))
 
 -- one number more has been looked at: it is in the set where the test holds
-pub looked_more : (words grown : List ℕ) (test : ℕ → Bool) (y : ℕ) → y < 256 → ((z : ℕ) → in_row words z ≡ (ltb z y && test z))
-    → ((z : ℕ) → in_row grown z ≡ (in_row words z || (ltb y 256 && eqb y z))) → test y ≡ true → (z : ℕ) → in_row grown z ≡ (ltb z (y + 1) && test z)
-looked_more words grown test y known so adds t z =
-    adds z ∙ (ap (λ u. u || (ltb y 256 && eqb y z)) (so z) ∙ ⊎_elim same (λ n. ⊎_elim (less n) (more n) (cases_lt z y)) (cases_eq z y))
+pub looked : (words grown : List ℕ) (test : ℕ → Bool) (y : ℕ) (gain : Bool) → ((z : ℕ) → in_row words z ≡ (ltb z y && test z))
+    → ((z : ℕ) → in_row grown z ≡ (in_row words z || (gain && eqb y z))) → test y ≡ gain → (z : ℕ) → in_row grown z ≡ (ltb z (y + 1) && test z)
+looked words grown test y gain so adds t z =
+    adds z ∙ (ap (λ u. u || (gain && eqb y z)) (so z) ∙ ⊎_elim same (λ n. ⊎_elim (less n) (more n) (cases_lt z y)) (cases_eq z y))
   where
-    same : z ≡ y → ((ltb z y && test z) || (ltb y 256 && eqb y z)) ≡ (ltb z (y + 1) && test z)
+    same : z ≡ y → ((ltb z y && test z) || (gain && eqb y z)) ≡ (ltb z (y + 1) && test z)
     same e =
         let a : ltb z y ≡ false = le-ltb z y (omega arith) in
         let b : ltb z (y + 1) ≡ true = lt-ltb z (y + 1) (omega arith) in
         let c : eqb y z ≡ true = eq-eqb y z (sym e) in
-        let d : ltb y 256 ≡ true = lt-ltb y 256 known in
-        let f : test z ≡ true = ap test e ∙ t in
-        rw (a, b, c, d, f)
+        let f : test z ≡ gain = ap test e ∙ t in
+        rw (a, b, c, f) (and-true gain)
 
-    less : (z ≡ y → ⊥) → z < y → ((ltb z y && test z) || (ltb y 256 && eqb y z)) ≡ (ltb z (y + 1) && test z)
+    less : (z ≡ y → ⊥) → z < y → ((ltb z y && test z) || (gain && eqb y z)) ≡ (ltb z (y + 1) && test z)
     less n l =
         let a : ltb z y ≡ true = lt-ltb z y l in
         let b : ltb z (y + 1) ≡ true = lt-ltb z (y + 1) (omega arith) in
         let c : eqb y z ≡ false = ne_eqb y z (λ e. n (sym e)) in
-        let d : ltb y 256 ≡ true = lt-ltb y 256 known in
-        rw (a, b, c, d) (or_none (test z))
+        rw (a, b, c, and-false gain) (or-false (test z))
 
-    more : (z ≡ y → ⊥) → y ≤ z → ((ltb z y && test z) || (ltb y 256 && eqb y z)) ≡ (ltb z (y + 1) && test z)
+    more : (z ≡ y → ⊥) → y ≤ z → ((ltb z y && test z) || (gain && eqb y z)) ≡ (ltb z (y + 1) && test z)
     more n l =
         let a : ltb z y ≡ false = le-ltb z y l in
         let b : ltb z (y + 1) ≡ false = le-ltb z (y + 1) (omega arith) in
         let c : eqb y z ≡ false = ne_eqb y z (λ e. n (sym e)) in
-        let d : ltb y 256 ≡ true = lt-ltb y 256 known in
-        rw (a, b, c, d)
+        rw (a, b, c) (and-false gain)
 
-pub looked_past : (words : List ℕ) (test : ℕ → Bool) (y : ℕ) → ((z : ℕ) → in_row words z ≡ (ltb z y && test z)) → test y ≡ false → (z : ℕ) → in_row words z ≡ (ltb z (y + 1) && test z)
-looked_past words test y so t z = so z ∙ ⊎_elim same (λ n. ⊎_elim (less n) (more n) (cases_lt z y)) (cases_eq z y)
-  where
-    same : z ≡ y → (ltb z y && test z) ≡ (ltb z (y + 1) && test z)
-    same e =
-        let a : ltb z y ≡ false = le-ltb z y (omega arith) in
-        let b : ltb z (y + 1) ≡ true = lt-ltb z (y + 1) (omega arith) in
-        let f : test z ≡ false = ap test e ∙ t in
-        rw (a, b, f)
-
-    less : (z ≡ y → ⊥) → z < y → (ltb z y && test z) ≡ (ltb z (y + 1) && test z)
-    less n l =
-        let a : ltb z y ≡ true = lt-ltb z y l in
-        let b : ltb z (y + 1) ≡ true = lt-ltb z (y + 1) (omega arith) in
-        rw (a, b)
-
-    more : (z ≡ y → ⊥) → y ≤ z → (ltb z y && test z) ≡ (ltb z (y + 1) && test z)
-    more n l =
-        let a : ltb z y ≡ false = le-ltb z y l in
-        let b : ltb z (y + 1) ≡ false = le-ltb z (y + 1) (omega arith) in
-        rw (a, b)
+-- of two objects of the list
+pub excluding_known : (rows : List ℕ) (objects : List Object) (x y : ℕ) (o : Object) → x < length objects → o ≡ object_at objects x → y < length objects →
+    excluding rows objects x y ≡ (not (eqb y x) && not (apart rows o (object_at objects y)))
+excluding_known rows objects x y o l is m =
+    let a : ltb x (length objects) ≡ true = lt-ltb x (length objects) l in
+    let b : ltb y (length objects) ≡ true = lt-ltb y (length objects) m in
+    rw (a, b) (ap (λ p. not (eqb y x) && not (apart rows p (object_at objects y))) (sym is))
 
 -- what is no object excludes nothing
 pub excluding_within : (rows : List ℕ) (objects : List Object) (x y i : ℕ) → length objects ≤ i → (ltb y i && excluding rows objects x y) ≡ excluding rows objects x y
@@ -108,13 +88,9 @@ excluding_within rows objects x y i all = ⊎_elim inside outside (cases_lt y i)
     inside : y < i → (ltb y i && excluding rows objects x y) ≡ excluding rows objects x y
     inside l = ap (λ u. u && excluding rows objects x y) (lt-ltb y i l)
 
-    and_none : (u v : Bool) → (u && (false && v)) ≡ false
-    and_none true v = refl
-    and_none false v = refl
-
     outside : i ≤ y → (ltb y i && excluding rows objects x y) ≡ excluding rows objects x y
     outside l =
         let none : ltb y (length objects) ≡ false = le-ltb y (length objects) (omega arith) in
         let rest = not (eqb y x) && not (apart rows (object_at objects x) (object_at objects y)) in
         ap (λ u. u && excluding rows objects x y) (le-ltb y i l)
-        ∙ sym (ap (λ u. ltb x (length objects) && (u && rest)) none ∙ and_none (ltb x (length objects)) rest)
+        ∙ sym (ap (λ u. ltb x (length objects) && (u && rest)) none ∙ and-false (ltb x (length objects)))

@@ -1,6 +1,7 @@
 -- Tables of rows.
-use Rattle.std.proofs.Common.{◌≡◌, ℕ, ◌+◌, ◌/◌, ◌%◌, ◌^◌, ◌<◌, ◌≤◌, Bool, true, false, not, ◌&&◌, ◌||◌, eqb, ltb, ◌≢◌, ◌⊎◌, List, length, get_or, set, replicate, sym, refl, ap, ◌∙◌, subst, inl, inr, arith, ne_eqb}
+use Rattle.std.proofs.Common.{◌≡◌, ℕ, ◌+◌, ◌/◌, ◌%◌, ◌^◌, ◌<◌, ◌≤◌, true, false, not, ◌&&◌, ◌||◌, eqb, ltb, ◌≢◌, ◌⊎◌, List, length, get_or, set, replicate, sym, refl, ap, ◌∙◌, subst, inl, inr, arith, ne_eqb}
 use mathlib.Core.Bool.{or_comm}
+use Rattle.std.proofs.Math.Bool.{or-false}
 use lib.Bits.{bit_or}
 use Rattle.words.specs.Words.{bit}
 use Rattle.std.proofs.lemmas.List.{length-set, length-replicate, get_or-replicate, get_or_past, get_or-set_same, get_or-set_other}
@@ -39,12 +40,8 @@ row_gains old w gained a b x known same bits up y =
 pub row_stays : (old : List ℕ) (w a b x : ℕ) → w ≡ get_or old x 0 → up_to (before old) x a ≡ false → (y : ℕ) → bit w y ≡ joined (before old) a b x y
 row_stays old w a b x same up y =
     ap (λ v. eqb (v / 2 ^ y % 2) 1) same
-    ∙ (or_none (before old x y)
+    ∙ (sym (or-false (before old x y))
     ∙ ap (λ v. before old x y || (v && up_to (before old) b y)) (sym up))
-  where
-    or_none : (u : Bool) → u ≡ (u || false)
-    or_none true = refl
-    or_none false = refl
 
 -- the rows before the first turn
 pub growing_none : (old : List ℕ) (a b : ℕ) → length old ≡ 64 → Growing old old a b 0
@@ -65,18 +62,6 @@ growing_write old rows a b i w l own g = record {
         ap (λ v. eqb (v / 2 ^ y % 2) 1) read ∙ (own y ∙ ap (λ j. joined (before old) a b j y) (sym e))
     at_row x y h (inr n) =
         ap (λ v. eqb (v / 2 ^ y % 2) 1) (get_or-set_other rows i x w 0 n) ∙ g.done x y (omega arith)
-
--- a row stays as it was
-pub growing_skip : (old rows : List ℕ) (a b i : ℕ) → up_to (before old) i a ≡ false → Growing old rows a b i → Growing old rows a b (i + 1)
-growing_skip old rows a b i up g = record {
-  long = g.long;
-  done = λ x y h. at_row x y h (cases_eq x i);
-  rest = λ x h. g.rest x (omega arith);
-}
-  where
-    at_row : (x y : ℕ) → x < i + 1 → (x ≡ i) ⊎ (x ≡ i → ⊥) → before rows x y ≡ joined (before old) a b x y
-    at_row x y h (inl e) = row_stays old (get_or rows x 0) a b x (g.rest x (omega arith)) (ap (λ j. up_to (before old) j a) e ∙ up) y
-    at_row x y h (inr n) = g.done x y (omega arith)
 
 -- every row is written: rows past the last have no bit, and no actor past the last is at or before a
 pub growing_whole : (old rows : List ℕ) (a b : ℕ) → length old ≡ 64 → a < 64 → Growing old rows a b 64 → (x y : ℕ) → before rows x y ≡ joined (before old) a b x y

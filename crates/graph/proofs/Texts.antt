@@ -1,5 +1,5 @@
 -- From lines to the whole text.
-use Rattle.std.proofs.Common.{◌≡◌, ℕ, ◌≤◌, true, false, List, ◌∷◌, ◌++◌, length, is_err, Ok, Err, Result, sym, subst, arith}
+use Rattle.std.proofs.Common.{◌≡◌, ℕ, ◌≤◌, true, false, List, ◌∷◌, ◌++◌, length, is_err, Ok, Err, Result, sym, subst}
 use Rattle.text.specs.declared.faults.TextFault.{TextFault}
 use Rattle.text.specs.declared.faults.TextFault.TheVariants.{TooLong, NoHeader, Malformed}
 use Rattle.text.specs.Lines.{Headless}
@@ -22,10 +22,10 @@ without_header text (Malformed at) short h = subst (λ n. Gives text (reported_t
 
 -- what a refused text left is forgotten
 pub forgotten : (text : List ℕ) (before after : ReadSheet) (r : Result Unit GraphFault) → is_err r ≡ true → TextAs text before r → Empty after → ReadAs text after r
-forgotten text before after (Ok u) e t empty = absurd (let z : ◌≡◌ {A = ℕ} 0 1 = cc in omega arith)
+forgotten text before after (Ok u) e t empty = absurd (cc)
 forgotten text before after (Err f) e t empty = (t, empty)
 
 -- and what an accepted one left stays
 pub kept : (text : List ℕ) (after : ReadSheet) (r : Result Unit GraphFault) → is_err r ≡ false → TextAs text after r → ReadAs text after r
 kept text after (Ok u) e t = t
-kept text after (Err f) e t = absurd (let z : ◌≡◌ {A = ℕ} 0 1 = cc in omega arith)
+kept text after (Err f) e t = absurd (cc)

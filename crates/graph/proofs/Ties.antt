@@ -1,7 +1,8 @@
 -- A table holds the order of links with one link more.
-use Rattle.std.proofs.Common.{◌≡◌, ℕ, ◌+◌, Bool, true, false, ◌&&◌, eqb, List, [], ◌∷◌, ◌++◌, sym, refl, ◌∙◌, subst, inl, inr, ⊎_elim, arith}
+use Rattle.std.proofs.Common.{◌≡◌, ℕ, ◌+◌, Bool, true, false, ◌&&◌, eqb, List, [], ◌∷◌, ◌++◌, Some, None, Ok, Err, Option, Result, is_some, sym, refl, ap, ◌∙◌, subst, inl, inr, ⊎_elim, arith}
 use Rattle.std.proofs.lemmas.Bool.{or_cases, or_left, or_right, and_parts, and_from, eqb-true, eq-eqb}
 use Rattle.rules.specs.declared.sheet.Link.{Link}
+use Rattle.rules.specs.declared.sheet.Sequence.{Sequence}
 use Rattle.rules.specs.Order.{Linked, UpTo, edges}
 use Rattle.rules.specs.declared.sheet.Fifo.{Fifo}
 use Rattle.rules.specs.declared.sheet.Link.TheVariants.{Plain, Delayed, Ordered}
@@ -9,15 +10,12 @@ use Rattle.rules.specs.Drafts.{Orders, from, to, fifo_count}
 use Rattle.rules.proofs.Chains.{closes}
 use Rattle.rules.proofs.Orderings.{linked, no_chain}
 use Rattle.rules.proofs.Joining.{link_adds_a_pair, other_link_adds_none}
-use Rattle.graph.specs.Rows.{before, up_to, joined}
+use Rattle.graph.specs.Rows.{before, up_to, joined, may_join}
 use Rattle.graph.specs.Orders.{Heard, Meant}
 
 -- where the bit is set a chain leads
 pub told : (rows : List ℕ) (links : List Link) → Meant rows links → (x y : ℕ) → before rows x y ≡ true → Linked (edges links) x y
-told rows links meant x y set = ⊎_elim (λ h. h) (λ no. absurd (clash (meant x y no))) (linked (edges links) x y)
-  where
-    clash : before rows x y ≡ false → ⊥
-    clash clear = let z : false ≡ true = sym clear ∙ set in let k : ◌≡◌ {A = ℕ} 0 1 = cc in omega arith
+told rows links meant x y set = ⊎_elim (λ h. h) (λ no. let clear = meant x y no in absurd (cc)) (linked (edges links) x y)
 
 -- empty rows hold the order of no links
 pub heard_none : (rows : List ℕ) → ((a b : ℕ) → before rows a b ≡ false) → Heard rows []
@@ -76,6 +74,14 @@ fifo_count_more (Plain f ∷ ks) k = let more = fifo_count_more ks k in omega ar
 fifo_count_more (Delayed f ∷ ks) k = let more = fifo_count_more ks k in omega arith
 fifo_count_more (Ordered q ∷ ks) k = fifo_count_more ks k
 
--- a FIFO with initial tokens orders nothing
-pub delayed_idle : (f : Fifo) → Orders (Delayed f) → ⊥
-delayed_idle f h = elim h [ ]
+-- a list with a link more whose ordering was joined
+pub order_pushed : (rows grown : List ℕ) (ks more : List Link) (k : Link) (q : Sequence) → more ≡ ks ++ k ∷ [] → Orders k × (q.first ≡ from k) × (q.second ≡ to k) →
+    ((x y : ℕ) → before grown x y ≡ joined (before rows) q.first q.second x y) → Heard rows ks → Meant rows ks → Heard grown more × Meant grown more
+order_pushed rows grown ks more k q added is same heard meant =
+    let ends : (x y : ℕ) → before grown x y ≡ joined (before rows) (from k) (to k) x y = λ x y. same x y ∙ (ap (λ a. joined (before rows) a q.second x y) is.1 ∙ ap (λ b. joined (before rows) (from k) b x y) is.2) in
+    (subst (Heard grown) (sym added) (heard_more rows grown ks k is.0 ends heard meant), subst (Meant grown) (sym added) (meant_more rows grown ks k is.0 ends heard meant))
+
+-- and with one that makes none
+pub order_kept : (rows : List ℕ) (ks more : List Link) (k : Link) → more ≡ ks ++ k ∷ [] → (Orders k → ⊥) → Heard rows ks → Meant rows ks → Heard rows more × Meant rows more
+order_kept rows ks more k added idle heard meant =
+    (subst (Heard rows) (sym added) (heard_delayed rows ks k idle heard), subst (Meant rows) (sym added) (meant_delayed rows ks k idle meant))

@@ -1,5 +1,6 @@
 -- The checks of a line in the order they are tried: what the private functions of the reader cite.
-use Rattle.std.specs.Prelude.{ℕ, Bool, true, false, cond, not, ◌&&◌, ◌||◌, List, [], ◌∷◌, Some, None, Option, ◌==◌, nat_le, nat_lt}
+use Rattle.std.specs.List.{list_any}
+use Rattle.std.specs.Prelude.{ℕ, Bool, true, false, cond, not, ◌&&◌, List, Some, None, Option, ◌==◌, nat_le, nat_lt}
 use Rattle.rules.specs.declared.sheet.Machine.{Machine}
 use Rattle.rules.specs.declared.sheet.Layer.{Layer}
 use Rattle.rules.specs.declared.sheet.Layer.TheVariants.{LowLine, SnugLimit}
@@ -36,8 +37,7 @@ same_sort (SnugLimit m) (SnugLimit n) = true
 
 -- whether a layer of the sort is there
 abbrev pub has_sort : Layer → List Layer → Bool
-has_sort l [] = false
-has_sort l (k ∷ ks) = same_sort k l || has_sort l ks
+has_sort l ks = list_any (λ k. same_sort k l) ks
 
 abbrev pub layer_in_range : Layer → Bool
 layer_in_range (LowLine n) = nat_le 1 n

@@ -45,3 +45,8 @@ TookBy j d e after (Err f) = j ≡ Some f
 abbrev pub Judges : Option Refusal → Result Unit Refusal → Type 0
 Judges j (Ok u) = j ≡ None
 Judges j (Err f) = j ≡ Some f
+
+-- the outcome of checks by the rules: no refusal meets the entry, or this one does and none with a lower number
+abbrev pub Allowed : Draft → Entry → Result Unit Refusal → Type 0
+Allowed d e (Ok u) = Free d e
+Allowed d e (Err f) = Lowest (Refuses d e) (refusal_number f)

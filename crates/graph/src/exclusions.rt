@@ -1,7 +1,7 @@
 // Which objects exclude each other.
 
-ghost use Rattle.std.specs.Prelude.{◌≡◌, ℕ, ◌≤◌, length, vec_len, vec_capacity};
-ghost use Rattle.graph.specs.Excluding.{apart, excluding};
+ghost use Rattle.std.specs.Prelude.{◌≡◌, ℕ, ◌<◌, ◌≤◌, length, vec_len, vec_capacity};
+ghost use Rattle.graph.specs.Excluding.{apart, excluding, object_at};
 ghost use Rattle.graph.specs.RowBits.{row_bit};
 ghost use Rattle.graph.specs.Rows.{in_row};
 
@@ -21,21 +21,17 @@ fn are_apart(order: &Order, x: Object, y: Object) -> bool
         && (order.before(x.consumer, y.producer) || order.before(y.consumer, x.producer))
 }
 
-// Whether x and y are two objects of the list, and not apart.
-fn are_excluding(objects: &[Object], order: &Order, x: usize, y: usize) -> bool
-    ensures { result ≡ excluding order.now.rows objects.now x y }
-{
-    x < objects.len() && y < objects.len() && y != x && !are_apart(order, objects[x], objects[y])
-}
-
-// The objects that exclude object x.
-fn row_of(objects: &[Object], order: &Order, x: usize) -> Row
+// The objects that exclude object x of the list.
+fn row_of(objects: &[Object], order: &Order, x: usize, object: Object) -> Row
     requires few { length objects.now ≤ 256 }
+    requires known { x < length objects.now }
+    requires itself { object ≡ object_at objects.now x }
     ensures { (y : ℕ) → in_row result.words y ≡ excluding order.now.rows objects.now x y }
 {
-    let mut row = Row::none();
-    for y in 0..objects.len() {
-        if are_excluding(objects, order, x, y) {
+    let mut row = Row::default();
+    // kept: a fold over a filter is longer, as both closures take the number and the object.
+    for (y, other) in objects.iter().enumerate() {
+        if y != x && !are_apart(order, object, *other) {
             row = row.adding(y);
         }
     }
@@ -67,8 +63,8 @@ impl Exclusions {
     {
         self.rows.clear();
         let list = objects.as_slice();
-        for x in 0..list.len() {
-            self.rows.push_reserved(row_of(list, order, x));
+        for (x, object) in list.iter().enumerate() {
+            self.rows.push_reserved(row_of(list, order, x, *object));
         }
     }
 

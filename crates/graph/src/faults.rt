@@ -6,7 +6,7 @@ ghost use Rattle.graph.specs.declared.faults.GraphFault.TheVariants.{Text};
 use text::faults::TextFault;
 
 // Why a well-written line is refused.
-#[derive(Clone, Copy)]
+#[derive(Clone, Copy, Debug, PartialEq, Eq)]
 pub enum Refusal {
     OutOfTurn,
     OffRange,
@@ -18,7 +18,7 @@ pub enum Refusal {
 }
 
 // A fault of the text, or a refused line with its number.
-#[derive(Clone, Copy)]
+#[derive(Clone, Copy, Debug, PartialEq, Eq)]
 pub enum GraphFault {
     Text(TextFault),
     Refused(Refusal, u32),

@@ -1,12 +1,12 @@
 // Taking a link.
 
-ghost use Rattle.std.specs.Prelude.{◌≡◌, ◌+◌, ◌<◌, ◌≤◌, length, None, vec_len, ◌==◌};
+ghost use Rattle.std.specs.Prelude.{◌≡◌, ◌+◌, ◌<◌, ◌≤◌, [], ◌∷◌, length, None, MatchOption, vec_len, ◌==◌};
 ghost use Rattle.graph.specs.Judging.{judge_fifo, judge_plain, judge_sequence};
 ghost use Rattle.graph.specs.Ranges.{size_in_range};
-ghost use Rattle.graph.specs.Taking.{Judges, Took, TookBy, draft_of};
+ghost use Rattle.graph.specs.Taking.{Allowed, Judges, Took, draft_of};
+ghost use Rattle.rules.specs.Objects.{buffer, buffers};
 ghost use Rattle.rules.specs.Sheets.{core_in};
 ghost use Rattle.rules.specs.declared.sheet.Entry.TheVariants.{NextLink};
-ghost use Rattle.rules.specs.declared.sheet.Link.TheVariants.{Delayed, Ordered, Plain};
 ghost use Rattle.text.specs.Bounds.{link_count};
 
 use crate::faults::Refusal;
@@ -21,6 +21,29 @@ fn size_in_range(size: u32) -> bool
     ensures { result ≡ size_in_range size }
 {
     1 <= size && size <= MOST_BYTES
+}
+
+// The object of a FIFO, which is delayed if it has initial tokens.
+fn buffer(fifo: Fifo, delayed: bool) -> Object
+    ensures { result ≡ buffer fifo delayed }
+{
+    Object {
+        producer: fifo.from,
+        consumer: fifo.to,
+        size: fifo.size,
+        delayed,
+    }
+}
+
+// The object of a link; an ordering has none.
+fn object_of(link: Link) -> Option<Object>
+    ensures { MatchOption result (buffers (link ∷ []) ≡ []) (λ o. buffers (link ∷ []) ≡ o ∷ []) }
+{
+    match link {
+        Link::Plain(fifo) => Some(buffer(fifo, false)),
+        Link::Delayed(fifo) => Some(buffer(fifo, true)),
+        Link::Ordered(_) => None,
+    }
 }
 
 impl ReadSheet {
@@ -44,40 +67,17 @@ impl ReadSheet {
         Ok(())
     }
 
-    pub(crate) fn take_plain(&mut self, fifo: Fifo) -> Result<(), Refusal>
-        requires room { vec_len self.old.links.list < 10922 }
-        ensures took { TookBy (judge_plain (vec_len self.old.actors) self.old.links.fifos self.old.links.order.rows fifo) (draft_of self.old) (NextLink (Plain fifo)) (draft_of self.new) result }
-        ensures links { vec_len self.new.links.list ≤ vec_len self.old.links.list + 1 }
+    // The checks of a FIFO without initial tokens, whose producer is before its consumer.
+    fn judge_plain(&self, fifo: Fifo) -> Result<(), Refusal>
+        ensures { Judges (judge_plain (vec_len self.now.actors) self.now.links.fifos self.now.links.order.rows fifo) result }
     {
         self.judge_fifo(fifo)?;
         if fifo.from == fifo.to {
             return Err(Refusal::EqualEnds);
         }
-        if !self.links.push_plain(fifo) {
+        if !self.links.order.allows(fifo.from, fifo.to) {
             return Err(Refusal::Backward);
         }
-        self.objects.push(Object {
-            producer: fifo.from,
-            consumer: fifo.to,
-            size: fifo.size,
-            delayed: false,
-        });
-        Ok(())
-    }
-
-    pub(crate) fn take_delayed(&mut self, fifo: Fifo) -> Result<(), Refusal>
-        requires room { vec_len self.old.links.list < 10922 }
-        ensures took { TookBy (judge_fifo (vec_len self.old.actors) self.old.links.fifos fifo None) (draft_of self.old) (NextLink (Delayed fifo)) (draft_of self.new) result }
-        ensures links { vec_len self.new.links.list ≤ vec_len self.old.links.list + 1 }
-    {
-        self.judge_fifo(fifo)?;
-        self.links.push_delayed(fifo);
-        self.objects.push(Object {
-            producer: fifo.from,
-            consumer: fifo.to,
-            size: fifo.size,
-            delayed: true,
-        });
         Ok(())
     }
 
@@ -90,10 +90,9 @@ impl ReadSheet {
         self.actors[a].core == self.actors[b].core
     }
 
-    pub(crate) fn take_sequence(&mut self, sequence: Sequence) -> Result<(), Refusal>
-        requires room { vec_len self.old.links.list < 10922 }
-        ensures took { TookBy (judge_sequence (vec_len self.old.actors) (core_in self.old.actors.items) self.old.links.order.rows sequence) (draft_of self.old) (NextLink (Ordered sequence)) (draft_of self.new) result }
-        ensures links { vec_len self.new.links.list ≤ vec_len self.old.links.list + 1 }
+    // The checks of an ordering of two actors.
+    fn judge_sequence(&self, sequence: Sequence) -> Result<(), Refusal>
+        ensures { Judges (judge_sequence (vec_len self.now.actors) (core_in self.now.actors.items) self.now.links.order.rows sequence) result }
     {
         let known = self.actors.len();
         if known == 0 {
@@ -110,29 +109,39 @@ impl ReadSheet {
         if !self.on_one_core(first, second) {
             return Err(Refusal::AcrossCores);
         }
-        if !self.links.push_ordered(sequence) {
+        if !self.links.order.allows(sequence.first, sequence.second) {
             return Err(Refusal::Backward);
         }
         Ok(())
     }
 
-    pub(crate) fn take_link(&mut self, link: Link) -> Result<(), Refusal>
-        requires room { vec_len self.old.links.list < 10922 }
-        ensures took { Took (draft_of self.old) (NextLink link) (draft_of self.new) result }
-        ensures links { vec_len self.new.links.list ≤ vec_len self.old.links.list + 1 }
+    // Refuses a link that may not be taken.
+    fn judge(&self, link: Link) -> Result<(), Refusal>
+        ensures { Allowed (draft_of self.now) (NextLink link) result }
     {
         match link {
-            Link::Plain(fifo) => self.take_plain(fifo),
-            Link::Delayed(fifo) => self.take_delayed(fifo),
-            Link::Ordered(sequence) => self.take_sequence(sequence),
+            Link::Plain(fifo) => self.judge_plain(fifo),
+            Link::Delayed(fifo) => self.judge_fifo(fifo),
+            Link::Ordered(sequence) => self.judge_sequence(sequence),
         }
+    }
+
+    fn take_link(&mut self, link: Link) -> Result<(), Refusal>
+        requires { vec_len self.old.links.list < 10922 }
+        ensures { Took (draft_of self.old) (NextLink link) (draft_of self.new) result }
+    {
+        self.judge(link)?;
+        self.links.push(link);
+        if let Some(object) = object_of(link) {
+            self.objects.push(object);
+        }
+        Ok(())
     }
 
     // Takes what one line says, or refuses it.
     pub(crate) fn take(&mut self, entry: Entry) -> Result<(), Refusal>
-        requires room { vec_len self.old.links.list + link_count entry ≤ 10922 }
-        ensures took { Took (draft_of self.old) entry (draft_of self.new) result }
-        ensures links { vec_len self.new.links.list ≤ vec_len self.old.links.list + link_count entry }
+        requires { vec_len self.old.links.list + link_count entry ≤ 10922 }
+        ensures { Took (draft_of self.old) entry (draft_of self.new) result }
     {
         match entry {
             Entry::OnMachine(machine) => self.take_machine(machine),

@@ -1,13 +1,12 @@
 // The links of a sheet.
 
-ghost use Rattle.std.specs.Prelude.{◌≡◌, ◌+◌, ◌<◌, ◌≤◌, [], ◌∷◌, ◌++◌, IfOk, if◌then◌else◌, vec_len, vec_capacity};
+ghost use Rattle.std.specs.Prelude.{◌≡◌, ◌+◌, ◌<◌, ◌≤◌, [], ◌∷◌, ◌++◌, true, IfOk, MatchOption, vec_len, vec_capacity};
 ghost use Rattle.graph.specs.Orders.{Heard, Meant};
 ghost use Rattle.graph.specs.Rows.{may_join};
-ghost use Rattle.rules.specs.Drafts.{fifo_count};
-ghost use Rattle.rules.specs.declared.sheet.Link.TheVariants.{Delayed, Ordered, Plain};
+ghost use Rattle.rules.specs.Drafts.{Orders, fifo_count, from, to};
 
 use crate::order::Order;
-use rules::sheet::{Fifo, Link, Sequence};
+use rules::sheet::{Link, Sequence};
 use std::alloc::{AllocError, Global};
 
 pub const MOST_FIFOS: usize = 192;
@@ -26,6 +25,30 @@ pub struct Links {
     ghost few: { fifos ≤ 192 },
     ghost heard: { Heard order.rows list.items },
     ghost meant: { Meant order.rows list.items },
+}
+
+// How many FIFOs a link is.
+fn fifos_of(link: Link) -> usize
+    ensures { result ≡ fifo_count (link ∷ []) }
+{
+    match link {
+        Link::Plain(_) | Link::Delayed(_) => 1,
+        Link::Ordered(_) => 0,
+    }
+}
+
+// The ordering that a link makes; a FIFO with initial tokens makes none.
+fn ordering_of(link: Link) -> Option<Sequence>
+    ensures { MatchOption result (Orders link → ⊥) (λ q. Orders link × (q.first ≡ from link) × (q.second ≡ to link)) }
+{
+    match link {
+        Link::Plain(fifo) => Some(Sequence {
+            first: fifo.from,
+            second: fifo.to,
+        }),
+        Link::Delayed(_) => None,
+        Link::Ordered(sequence) => Some(sequence),
+    }
 }
 
 impl Links {
@@ -49,51 +72,18 @@ impl Links {
         self.order = Order::none();
     }
 
-    // A FIFO without initial tokens, whose producer is before its consumer.
-    // False, and nothing changed, where that would put an actor before itself.
-    pub(crate) fn push_plain(&mut self, fifo: Fifo) -> bool
+    // One link more, in the order too if it orders its ends.
+    pub(crate) fn push(&mut self, link: Link)
         requires room { vec_len self.old.list < 10922 }
-        requires few { self.old.fifos < 192 }
-        ensures answer { result ≡ may_join self.old.order.rows fifo.from fifo.to }
-        ensures items { self.new.list.items ≡ (if result then self.old.list.items ++ Plain fifo ∷ [] else self.old.list.items) }
-        ensures len { vec_len self.new.list ≡ (if result then vec_len self.old.list + 1 else vec_len self.old.list) }
-        ensures fifos { self.new.fifos ≡ (if result then self.old.fifos + 1 else self.old.fifos) }
+        requires few { self.old.fifos + fifo_count (link ∷ []) ≤ 192 }
+        requires allowed { Orders link → may_join self.old.order.rows (from link) (to link) ≡ true }
+        ensures items { self.new.list.items ≡ self.old.list.items ++ link ∷ [] }
+        ensures fifos { self.new.fifos ≡ self.old.fifos + fifo_count (link ∷ []) }
     {
-        let Some(order) = self.order.adding(fifo.from, fifo.to) else {
-            return false;
-        };
-        self.list.push_reserved(Link::Plain(fifo));
-        self.fifos += 1;
-        self.order = order;
-        true
-    }
-
-    // A FIFO with initial tokens, which orders nothing.
-    pub(crate) fn push_delayed(&mut self, fifo: Fifo)
-        requires room { vec_len self.old.list < 10922 }
-        requires few { self.old.fifos < 192 }
-        ensures items { self.new.list.items ≡ self.old.list.items ++ Delayed fifo ∷ [] }
-        ensures len { vec_len self.new.list ≡ vec_len self.old.list + 1 }
-        ensures fifos { self.new.fifos ≡ self.old.fifos + 1 }
-    {
-        self.list.push_reserved(Link::Delayed(fifo));
-        self.fifos += 1;
-    }
-
-    // An ordering of two actors.
-    // False, and nothing changed, where that would put an actor before itself.
-    pub(crate) fn push_ordered(&mut self, sequence: Sequence) -> bool
-        requires room { vec_len self.old.list < 10922 }
-        ensures answer { result ≡ may_join self.old.order.rows sequence.first sequence.second }
-        ensures items { self.new.list.items ≡ (if result then self.old.list.items ++ Ordered sequence ∷ [] else self.old.list.items) }
-        ensures len { vec_len self.new.list ≡ (if result then vec_len self.old.list + 1 else vec_len self.old.list) }
-        ensures fifos { self.new.fifos ≡ self.old.fifos }
-    {
-        let Some(order) = self.order.adding(sequence.first, sequence.second) else {
-            return false;
-        };
-        self.list.push_reserved(Link::Ordered(sequence));
-        self.order = order;
-        true
+        self.list.push_reserved(link);
+        self.fifos += fifos_of(link);
+        if let Some(pair) = ordering_of(link) {
+            self.order.join(pair.first, pair.second);
+        }
     }
 }

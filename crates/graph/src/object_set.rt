@@ -57,19 +57,17 @@ impl ObjectSet for Graph {
     }
 
     fn touching(&self, x: u32) -> u64 {
-        match self.sheet.objects.as_slice().get(x as usize) {
-            Some(object) => pair(self.core_of(object.producer), self.core_of(object.consumer)),
-            None => 0,
-        }
+        let objects = self.sheet.objects.as_slice();
+        objects.get(x as usize).map_or(0, |object| {
+            pair(self.core_of(object.producer), self.core_of(object.consumer))
+        })
     }
 }
 
 impl Graph {
     // The core of an actor; 0 where there is no such actor.
     fn core_of(&self, actor: u32) -> u32 {
-        match self.sheet.actors.as_slice().get(actor as usize) {
-            Some(a) => a.core,
-            None => 0,
-        }
+        let actors = self.sheet.actors.as_slice();
+        actors.get(actor as usize).map_or(0, |known| known.core)
     }
 }

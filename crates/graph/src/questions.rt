@@ -27,12 +27,7 @@ impl Graph {
 
     // Whether every actor's core is one of so many.
     pub fn fits_on(&self, cores: u32) -> bool {
-        for actor in self.sheet.actors.as_slice() {
-            if actor.core >= cores {
-                return false;
-            }
-        }
-        true
+        self.sheet.actors.iter().all(|actor| actor.core < cores)
     }
 
     // Whether actor a is before actor b; none where the sheet has no such actor.
@@ -40,10 +35,8 @@ impl Graph {
         ensures { SaysBefore self.now.sheet a b result }
     {
         let count = self.sheet.actors.len();
-        if a as usize >= count || b as usize >= count {
-            return None;
-        }
-        Some(self.sheet.links.order.before(a, b))
+        let known = (a as usize) < count && (b as usize) < count;
+        known.then(|| self.sheet.links.order.before(a, b))
     }
 
     // Whether objects x and y exclude each other; none where the sheet has no such object.
@@ -51,19 +44,15 @@ impl Graph {
         ensures { SaysExcludes self.now.sheet x y result }
     {
         let count = self.sheet.objects.len();
-        if x as usize >= count || y as usize >= count {
-            return None;
-        }
-        Some(self.exclusions.excludes(x, y))
+        let known = (x as usize) < count && (y as usize) < count;
+        known.then(|| self.exclusions.excludes(x, y))
     }
 
     // Object x: its first and last actor, its size, and whether it has initial tokens.
     pub fn object(&self, x: u32) -> Option<Object>
         ensures { SaysObject self.now.sheet x result }
     {
-        if x as usize >= self.sheet.objects.len() {
-            return None;
-        }
-        Some(self.sheet.objects.list[x as usize])
+        let objects = self.sheet.objects.as_slice();
+        objects.get(x as usize).copied()
     }
 }

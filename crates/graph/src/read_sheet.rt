@@ -1,7 +1,7 @@
 // What the lines of a sheet say.
 
 ghost use Rattle.std.specs.Prelude.{◌≡◌, ◌+◌, ◌≤◌, true, false, [], IfOk, vec_len, vec_capacity};
-ghost use Rattle.graph.specs.Sizes.{objects_in, same_objects};
+ghost use Rattle.graph.specs.Sizes.{objects_in};
 ghost use Rattle.graph.specs.Stages.{grain_of, is_ruled};
 ghost use Rattle.graph.specs.declared.stage.Stage.TheVariants.{Blank};
 ghost use Rattle.rules.specs.Fitting.{is_grain, may_layer};
@@ -30,7 +30,7 @@ pub struct ReadSheet {
     ghost grained: { is_grain (grain_of stage) ≡ true },
     ghost headed: { (is_ruled stage ≡ false → (vec_len layers ≡ 0) × (vec_len actors ≡ 0)) },
     ghost peopled: { (vec_len actors ≡ 0 → vec_len links.list ≡ 0) },
-    ghost listed: { same_objects objects.list.items (objects_in actors.items links.list.items) ≡ true },
+    ghost listed: { objects.list.items ≡ objects_in actors.items links.list.items },
 }
 
 impl ReadSheet {

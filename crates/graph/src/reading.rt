@@ -16,11 +16,11 @@ impl ReadSheet {
     {
         let mut rest = text;
         let mut at: u32 = 2;
+        // kept: each turn takes what the one before left, and the fault behind the last line its number.
         while !rest.is_empty() {
             let (entry, more) = next_entry(rest, at)?;
-            if let Err(refusal) = self.take(entry) {
-                return Err(GraphFault::Refused(refusal, at));
-            }
+            self.take(entry)
+                .map_err(|refusal| GraphFault::Refused(refusal, at))?;
             rest = more;
             at += 1;
         }

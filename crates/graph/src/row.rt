@@ -7,19 +7,23 @@ use crate::objects::MOST_OBJECTS;
 use words::{has, with};
 
 // A set of object numbers below 256, as words of 64 bits.
-#[derive(Clone, Copy)]
+#[derive(Clone, Copy, Debug, PartialEq, Eq)]
 pub struct Row {
     pub(crate) words: [u64; 4],
     ghost long: { length words ≡ 4 },
 }
 
-impl Row {
-    pub(crate) fn none() -> Row
+// kept: Default is not derived over a ghost field.
+impl Default for Row {
+    // The empty set.
+    fn default() -> Row
         ensures { (y : ℕ) → in_row result.words y ≡ false }
     {
         Row { words: [0; 4] }
     }
+}
 
+impl Row {
     // Whether object y is in the set.
     pub(crate) fn holds(&self, y: usize) -> bool
         ensures { result ≡ in_row self.now.words y }

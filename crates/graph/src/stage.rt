@@ -3,7 +3,7 @@
 use rules::sheet::{Fit, Machine};
 
 // Nothing yet, the machine alone, or the machine and the fit rule.
-#[derive(Clone, Copy)]
+#[derive(Clone, Copy, Debug, PartialEq, Eq)]
 pub enum Stage {
     Blank,
     Machined(Machine),

@@ -28,32 +28,28 @@ fn machine_in_range(m: &Machine) -> bool
 }
 
 // Whether two layers are of one sort.
+// kept: std has no discriminant, and an enum of the two sorts with its equality is longer.
 fn are_of_one_sort(a: Layer, b: Layer) -> bool
     ensures { result ≡ same_sort a b }
 {
-    match a {
-        Layer::LowLine(_) => matches!(b, Layer::LowLine(_)),
-        Layer::SnugLimit(_) => matches!(b, Layer::SnugLimit(_)),
-    }
+    matches!(
+        (a, b),
+        (Layer::LowLine(_), Layer::LowLine(_)) | (Layer::SnugLimit(_), Layer::SnugLimit(_))
+    )
 }
 
 // Whether a layer of the same sort is there already.
 fn has_such(layers: &[Layer], layer: Layer) -> bool
     ensures { result ≡ has_sort layer layers.now }
 {
-    for known in layers {
-        if are_of_one_sort(*known, layer) {
-            return true;
-        }
-    }
-    false
+    layers.iter().any(|known| are_of_one_sort(*known, layer))
 }
 
 impl ReadSheet {
     pub(crate) fn take_machine(&mut self, machine: Machine) -> Result<(), Refusal>
-        ensures took { TookBy (judge_machine self.old.stage machine) (draft_of self.old) (OnMachine machine) (draft_of self.new) result }
-        ensures links { vec_len self.new.links.list ≡ vec_len self.old.links.list }
+        ensures { TookBy (judge_machine self.old.stage machine) (draft_of self.old) (OnMachine machine) (draft_of self.new) result }
     {
+        // kept: one of three stages, and no Option.
         let Stage::Blank = self.stage else {
             return Err(Refusal::OutOfTurn);
         };
@@ -65,9 +61,9 @@ impl ReadSheet {
     }
 
     pub(crate) fn take_fit(&mut self, fit: Fit) -> Result<(), Refusal>
-        ensures took { TookBy (judge_fit self.old.stage) (draft_of self.old) (ByFit fit) (draft_of self.new) result }
-        ensures links { vec_len self.new.links.list ≡ vec_len self.old.links.list }
+        ensures { TookBy (judge_fit self.old.stage) (draft_of self.old) (ByFit fit) (draft_of self.new) result }
     {
+        // kept: one of three stages, and no Option.
         let Stage::Machined(machine) = self.stage else {
             return Err(Refusal::OutOfTurn);
         };
@@ -76,9 +72,9 @@ impl ReadSheet {
     }
 
     pub(crate) fn take_layer(&mut self, layer: Layer) -> Result<(), Refusal>
-        ensures took { TookBy (judge_layer self.old.stage (vec_len self.old.actors) self.old.layers.items layer) (draft_of self.old) (WithLayer layer) (draft_of self.new) result }
-        ensures links { vec_len self.new.links.list ≡ vec_len self.old.links.list }
+        ensures { TookBy (judge_layer self.old.stage (vec_len self.old.actors) self.old.layers.items layer) (draft_of self.old) (WithLayer layer) (draft_of self.new) result }
     {
+        // kept: one of three stages, and no Option.
         let Stage::Ruled(_, _) = self.stage else {
             return Err(Refusal::OutOfTurn);
         };
@@ -93,9 +89,9 @@ impl ReadSheet {
     }
 
     pub(crate) fn take_actor(&mut self, actor: Actor) -> Result<(), Refusal>
-        ensures took { TookBy (judge_actor self.old.stage (vec_len self.old.actors) (vec_len self.old.links.list) actor) (draft_of self.old) (NextActor actor) (draft_of self.new) result }
-        ensures links { vec_len self.new.links.list ≡ vec_len self.old.links.list }
+        ensures { TookBy (judge_actor self.old.stage (vec_len self.old.actors) (vec_len self.old.links.list) actor) (draft_of self.old) (NextActor actor) (draft_of self.new) result }
     {
+        // kept: one of three stages, and no Option.
         let Stage::Ruled(machine, _) = self.stage else {
             return Err(Refusal::OutOfTurn);
         };

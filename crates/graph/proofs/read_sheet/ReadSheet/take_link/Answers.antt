@@ -1,24 +1,36 @@
-use Rattle.std.proofs.Common.{sym, subst}
-use Rattle.rules.specs.declared.sheet.Link.{Link}
-use Rattle.rules.specs.declared.sheet.Entry.TheVariants.{NextLink}
-use Rattle.graph.specs.Taking.{Took, draft_of}
-use Rattle.graph.proofs.Took.{took, sheet_plain, sheet_delayed, sheet_sequence}
+use Rattle.std.proofs.Common.{◌++◌, vec_items, sym, ap, ◌∙◌}
+use Rattle.std.proofs.lemmas.List.{append-nil}
+use Rattle.graph.specs.Taking.{draft_of}
+use Rattle.graph.proofs.Listed.{link_pushed}
+use Rattle.graph.proofs.Counted.{peopled, few_after, joinable, object_sized}
 use Rattle.graph.proofs.read_sheet.ReadSheet.take_link.Goals as goal
 
-pub returns-in-Plain : goal.returns-in-Plain
-returns-in-Plain c =
-    let s = c.args.self.now in
-    let t = took (draft_of s) _ (draft_of c.take_plain.new.self) _ c.take_plain.result (sheet_plain s c.in-Plain.fifo) c.take_plain.ensures.took in
-    record { took = subst (λ (k : Link). Took (draft_of s) (NextLink k) (draft_of c.take_plain.new.self) c.take_plain.result) (sym c.in-Plain.is) t; links = c.take_plain.ensures.links }
+pub push-requires-clause-few : goal.push-requires-clause-few
+push-requires-clause-few c = few_after c.args.self.now c.args.link c.in_ok-judge.ensures
 
-pub returns-in-Delayed : goal.returns-in-Delayed
-returns-in-Delayed c =
-    let s = c.args.self.now in
-    let t = took (draft_of s) _ (draft_of c.take_delayed.new.self) _ c.take_delayed.result (sheet_delayed s c.in-Delayed.fifo) c.take_delayed.ensures.took in
-    record { took = subst (λ (k : Link). Took (draft_of s) (NextLink k) (draft_of c.take_delayed.new.self) c.take_delayed.result) (sym c.in-Delayed.is) t; links = c.take_delayed.ensures.links }
+pub push-requires-clause-allowed : goal.push-requires-clause-allowed
+push-requires-clause-allowed c = joinable c.args.self.now c.args.link c.in_ok-judge.ensures
 
-pub returns-in-Ordered : goal.returns-in-Ordered
-returns-in-Ordered c =
+pub push-requires-in-Some-clause-filled : goal.push-requires-in-Some-clause-filled
+push-requires-in-Some-clause-filled c = (object_sized (draft_of c.args.self.now) c.args.link c.in-Some.object c.in_ok-judge.ensures c.in-Some.ensures).0
+
+pub push-requires-in-Some-clause-small : goal.push-requires-in-Some-clause-small
+push-requires-in-Some-clause-small c = (object_sized (draft_of c.args.self.now) c.args.link c.in-Some.object c.in_ok-judge.ensures c.in-Some.ensures).1
+
+pub invariant_of-self-clause-peopled : goal.invariant_of-self-clause-peopled
+invariant_of-self-clause-peopled c = λ none. absurd (peopled c.args.self.now c.args.link c.in_ok-judge.ensures none)
+
+pub invariant_of-self-clause-listed : goal.invariant_of-self-clause-listed
+invariant_of-self-clause-listed c =
     let s = c.args.self.now in
-    let t = took (draft_of s) _ (draft_of c.take_sequence.new.self) _ c.take_sequence.result (sheet_sequence s c.in-Ordered.sequence) c.take_sequence.ensures.took in
-    record { took = subst (λ (k : Link). Took (draft_of s) (NextLink k) (draft_of c.take_sequence.new.self) c.take_sequence.result) (sym c.in-Ordered.is) t; links = c.take_sequence.ensures.links }
+    link_pushed (vec_items s.objects.list) (vec_items c.push-in-Some.new.self.list) (vec_items s.actors) (vec_items s.links.list) (vec_items c.push.new.self.list) c.args.link s.listed
+    (c.push-in-Some.ensures.items ∙ ap (λ os. vec_items s.objects.list ++ os) (sym c.in-Some.ensures)) c.push.ensures.items
+
+pub invariant_of-self-in_default-clause-peopled : goal.invariant_of-self-in_default-clause-peopled
+invariant_of-self-in_default-clause-peopled c = λ none. absurd (peopled c.args.self.now c.args.link c.in_ok-judge.ensures none)
+
+pub invariant_of-self-in_default-clause-listed : goal.invariant_of-self-in_default-clause-listed
+invariant_of-self-in_default-clause-listed c =
+    let s = c.args.self.now in
+    link_pushed (vec_items s.objects.list) (vec_items s.objects.list) (vec_items s.actors) (vec_items s.links.list) (vec_items c.push.new.self.list) c.args.link s.listed
+    (sym (append-nil (vec_items s.objects.list)) ∙ ap (λ os. vec_items s.objects.list ++ os) (sym c.in_default.ensures)) c.push.ensures.items

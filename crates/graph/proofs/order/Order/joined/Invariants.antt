@@ -1,5 +1,0 @@
-use Rattle.graph.proofs.Tables.{Growing}
-use Rattle.graph.proofs.order.Order.joined.Given as goal
-
-abbrev pub invariant-loop-x : goal.invariant-loop-x
-invariant-loop-x l = Growing l.self.rows l.rows l.a l.b l.x
