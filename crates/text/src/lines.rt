@@ -22,9 +22,7 @@ pub fn within_limit(text: &[u8]) -> Result<(), TextFault>
 pub fn after_header(text: &[u8]) -> Result<&[u8], TextFault>
     ensures { AfterHeader text.now result }
 {
-    let Some(rest) = text.strip_prefix(b"LGM 1") else {
-        return Err(TextFault::NoHeader);
-    };
+    let rest = text.strip_prefix(b"LGM 1").ok_or(TextFault::NoHeader)?;
     match rest {
         [] => Err(TextFault::Malformed(1)),
         [b'\n', lines @ ..] => Ok(lines),
@@ -36,12 +34,8 @@ pub fn after_header(text: &[u8]) -> Result<&[u8], TextFault>
 pub fn line_end(text: &[u8], from: usize) -> Option<usize>
     ensures { FirstEnd text.now from result }
 {
-    for i in from..text.len() {
-        if text[i] == b'\n' {
-            return Some(i);
-        }
-    }
-    None
+    let i = text.get(from..)?.iter().position(|b| *b == b'\n')?;
+    Some(from + i)
 }
 
 // The first line of `text`, and what follows its line end.
@@ -49,16 +43,14 @@ fn cut_line(text: &[u8]) -> Option<(&[u8], &[u8])>
     ensures { MatchOption result (Endless text.now) (λ p. Cut text.now p.0.now p.1.now) }
 {
     let i = line_end(text, 0)?;
-    Some((&text[0..i], &text[i + 1..]))
+    Some((&text[..i], &text[i + 1..]))
 }
 
 // What the first line of `text` says, which is line `at` of the whole, and the lines after it.
 pub fn next_entry(text: &[u8], at: u32) -> Result<(Entry, &[u8]), TextFault>
     ensures { NextEntry text.now at result }
 {
-    let Some((line, rest)) = cut_line(text) else {
-        return Err(TextFault::Malformed(at));
-    };
+    let (line, rest) = cut_line(text).ok_or(TextFault::Malformed(at))?;
     let entry = entry_of(line, at)?;
     Ok((entry, rest))
 }

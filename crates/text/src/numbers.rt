@@ -16,6 +16,7 @@ pub fn number(s: &[u8]) -> Option<(u32, &[u8])>
     }
     let mut n: u32 = 0;
     let mut rest = s;
+    // kept: the pattern takes a digit and leaves the rest; a fold wants the digits cut off first.
     while let [d @ b'0'..=b'9', more @ ..] = rest {
         n = n.checked_mul(10)?.checked_add(u32::from(*d - b'0'))?;
         rest = more;
@@ -24,11 +25,9 @@ pub fn number(s: &[u8]) -> Option<(u32, &[u8])>
 }
 
 // A field: exactly one space, and a number.
+#[tactic(auto, unfolding(rules::specs::Numerals::field_on))]
 pub fn field(s: &[u8]) -> Option<(u32, &[u8])>
     ensures { MatchOption result (field_on s.now ≡ None) (λ p. field_on s.now ≡ Some (read_as p)) }
 {
-    let [b' ', rest @ ..] = s else {
-        return None;
-    };
-    number(rest)
+    number(s.strip_prefix(b" ")?)
 }
