@@ -1,2 +1,1 @@
 pub mod Sheets
-pub mod Homes

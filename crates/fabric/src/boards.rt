@@ -1,11 +1,13 @@
 // The fabrics of the sheet.
+// kept: a law takes a `u32` for any number, so each `fits` says what numbers the type has.
 ghost use Rattle.std.specs.Prelude.{◌≡◌, ◌^◌, ◌<◌, ◌≤◌, min};
 
 // The most cores that a fabric of the sheet has.
+// kept: a function or a type of capped cores would be longer than the three calls of `min` that cap them.
 pub const MOST_CORES: u32 = 8;
 
 // One bank, shared by all cores, the home of everything.
-#[derive(Clone, Copy)]
+#[derive(Clone, Copy, Debug, PartialEq, Eq)]
 pub struct SharedBank {
     pub cores: u32,
     pub capacity: u32,
@@ -26,7 +28,7 @@ impl SharedBank {
 }
 
 // Bank c is private to core c. An object has a home in the bank of each core that touches it.
-#[derive(Clone, Copy)]
+#[derive(Clone, Copy, Debug, PartialEq, Eq)]
 pub struct PrivateBanks {
     pub cores: u32,
     pub capacity: u32,
@@ -49,7 +51,7 @@ impl PrivateBanks {
 
 // Bank 0 is shared and bank c + 1 is private to core c. An object that one core touches has that core's bank as its
 // home, any other has bank 0.
-#[derive(Clone, Copy)]
+#[derive(Clone, Copy, Debug, PartialEq, Eq)]
 pub struct HybridBanks {
     pub cores: u32,
     pub shared: u32,
@@ -73,7 +75,7 @@ impl HybridBanks {
 }
 
 // The fabric that a sheet's machine names.
-#[derive(Clone, Copy)]
+#[derive(Clone, Copy, Debug, PartialEq, Eq)]
 pub enum SheetFabric {
     Unified(SharedBank),
     Private(PrivateBanks),

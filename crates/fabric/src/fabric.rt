@@ -7,15 +7,10 @@ pub trait Fabric {
     // The most banks that a fabric of this sort can have.
     const MAX_BANKS: u32;
 
-    // the number `MAX_BANKS`
-    ghost most: { ℕ };
+    ghost MAX_BANKS: { ℕ };
 
     // what the fabric means
     ghost means: { Self → Meaning };
-
-    // `MAX_BANKS`, for clauses.
-    fn most_banks() -> u32
-        ensures { result ≡ most };
 
     fn cores(&self) -> u32
         ensures { result ≡ (means self.now).cores };
@@ -33,9 +28,9 @@ pub trait Fabric {
     fn homes(&self, touching: u64) -> u64
         ensures { result ≡ (means self.now).homes touching };
 
-    ghost few: { most ≤ 16 };
+    ghost few: { MAX_BANKS ≤ 16 };
 
-    ghost within: { (f : Self) → (means f).banks ≤ most };
+    ghost within: { (f : Self) → (means f).banks ≤ MAX_BANKS };
 
     ghost fits: { (f : Self) (bank : ℕ) → bank < (means f).banks → (means f).capacity bank < 2 ^ 32 };
 

@@ -1,6 +1,6 @@
 // What the fabrics of the sheet mean.
 ghost use Rattle.rules.specs.Fabrics.{hybrid, separate, unified};
-ghost use Rattle.fabric.specs.Homes.{unified_homely, separate_homely, hybrid_homely};
+ghost use Rattle.rules.proofs.Homes.{unified_homely, separate_homely, hybrid_homely};
 ghost use Rattle.std.specs.Prelude.{◌^◌, ◌<◌, ◌==◌};
 ghost use Rattle.std.proofs.Common.{lit≤, le_refl, add-le-add};
 ghost use Rattle.std.proofs.lemmas.Bool.{cond_both};
@@ -12,7 +12,7 @@ use words::count;
 impl Fabric for SharedBank {
     const MAX_BANKS: u32 = 1;
 
-    ghost most = { 1 };
+    ghost MAX_BANKS = { 1 };
 
     ghost means = { λ f. unified f.cores f.capacity };
 
@@ -23,10 +23,6 @@ impl Fabric for SharedBank {
     ghost fits = { λ f bank below. f.fits };
 
     ghost homely = { λ f touching set. unified_homely f.cores touching set f.capacity };
-
-    fn most_banks() -> u32 {
-        Self::MAX_BANKS
-    }
 
     fn cores(&self) -> u32 {
         self.cores
@@ -52,7 +48,7 @@ impl Fabric for SharedBank {
 impl Fabric for PrivateBanks {
     const MAX_BANKS: u32 = 8;
 
-    ghost most = { 8 };
+    ghost MAX_BANKS = { 8 };
 
     ghost means = { λ f. separate f.cores f.capacity };
 
@@ -63,10 +59,6 @@ impl Fabric for PrivateBanks {
     ghost fits = { λ f bank below. f.fits };
 
     ghost homely = { λ f touching set. separate_homely f.cores touching set f.capacity };
-
-    fn most_banks() -> u32 {
-        Self::MAX_BANKS
-    }
 
     fn cores(&self) -> u32 {
         self.cores
@@ -92,7 +84,7 @@ impl Fabric for PrivateBanks {
 impl Fabric for HybridBanks {
     const MAX_BANKS: u32 = 9;
 
-    ghost most = { 9 };
+    ghost MAX_BANKS = { 9 };
 
     ghost means = { λ f. hybrid f.cores f.shared f.private };
 
@@ -103,10 +95,6 @@ impl Fabric for HybridBanks {
     ghost fits = { λ f bank below. cond_both (bank == 0) f.shared f.private (λ n. n < 2 ^ 32) (λ e. f.fits.0) (λ e. f.fits.1) };
 
     ghost homely = { λ f touching set. hybrid_homely f.cores touching set f.shared f.private };
-
-    fn most_banks() -> u32 {
-        Self::MAX_BANKS
-    }
 
     fn cores(&self) -> u32 {
         self.cores

@@ -1,11 +1,12 @@
 // The fabric of a sheet.
-ghost use Rattle.std.specs.Prelude.{◌≡◌, ◌^◌, ◌<◌, ◌≤◌, ◌==◌, min};
+ghost use Rattle.std.specs.Prelude.{◌≡◌, ◌≤◌, min};
 ghost use Rattle.rules.specs.Fabrics.{by_kind, fabric_of};
 ghost use Rattle.fabric.specs.Sheets.{sheet_means};
 ghost use Rattle.fabric.specs.declared.boards.SheetFabric.TheVariants.{Unified, Private, Hybrid};
-ghost use Rattle.fabric.specs.Homes.{hybrid_homely, separate_homely, unified_homely};
-ghost use Rattle.std.proofs.Common.{lit≤, le_refl, le_trans, add-le-add};
-ghost use Rattle.std.proofs.lemmas.Bool.{cond_both};
+ghost use Rattle.fabric.specs.contracts.kinds.SharedBankFabric.TheImpl.Laws as shared;
+ghost use Rattle.fabric.specs.contracts.kinds.PrivateBanksFabric.TheImpl.Laws as private;
+ghost use Rattle.fabric.specs.contracts.kinds.HybridBanksFabric.TheImpl.Laws as hybrid;
+ghost use Rattle.std.proofs.Common.{lit≤, le_trans};
 
 use crate::boards::{HybridBanks, PrivateBanks, SharedBank, SheetFabric};
 use crate::fabric::Fabric;
@@ -32,36 +33,34 @@ impl SheetFabric {
     }
 }
 
+// kept: an arm calls a method of its own type, so one match for all five methods would need a trait of questions and
+// five types that ask.
 impl Fabric for SheetFabric {
     const MAX_BANKS: u32 = 9;
 
-    ghost most = { 9 };
+    ghost MAX_BANKS = { 9 };
 
     ghost means = { sheet_means };
 
     ghost few = { lit≤ tt };
 
     ghost within = { elim [
-      | Unified f ↦ lit≤ tt
-      | Private f ↦ le_trans f.few (lit≤ tt)
-      | Hybrid f ↦ add-le-add f.few (le_refl 1)
+      | Unified f ↦ le_trans (shared.within-law f) (lit≤ tt)
+      | Private f ↦ le_trans (private.within-law f) (lit≤ tt)
+      | Hybrid f ↦ hybrid.within-law f
     ] };
 
     ghost fits = { elim [
-      | Unified f ↦ λ bank below. f.fits
-      | Private f ↦ λ bank below. f.fits
-      | Hybrid f ↦ λ bank below. cond_both (bank == 0) f.shared f.private (λ n. n < 2 ^ 32) (λ e. f.fits.0) (λ e. f.fits.1)
+      | Unified f ↦ shared.fits-law f
+      | Private f ↦ private.fits-law f
+      | Hybrid f ↦ hybrid.fits-law f
     ] };
 
     ghost homely = { elim [
-      | Unified f ↦ λ touching set. unified_homely f.cores touching set f.capacity
-      | Private f ↦ λ touching set. separate_homely f.cores touching set f.capacity
-      | Hybrid f ↦ λ touching set. hybrid_homely f.cores touching set f.shared f.private
+      | Unified f ↦ shared.homely-law f
+      | Private f ↦ private.homely-law f
+      | Hybrid f ↦ hybrid.homely-law f
     ] };
-
-    fn most_banks() -> u32 {
-        Self::MAX_BANKS
-    }
 
     fn cores(&self) -> u32 {
         match self {

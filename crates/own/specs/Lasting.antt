@@ -3,7 +3,7 @@ use Rattle.std.specs.Prelude.{ℕ, ◌≤◌, List, [], ◌∷◌, None}
 use Rattle.std.specs.Option.{option_or}
 use Rattle.rules.specs.declared.memory.Stretch.{Stretch}
 use Rattle.rules.specs.Fitting.{Proper, Rule, Takes}
-use Rattle.fit.specs.Choosing.{offer}
+use Rattle.rules.specs.Choosing.{offer}
 
 -- the last gap that holds the size
 abbrev pub last_of : Rule

@@ -9,7 +9,7 @@ use fabric::Fabric;
 use words::count;
 
 // Two banks that every core reaches. Bank 0 is the home of what one core touches, bank 1 of what two cores touch.
-#[derive(Clone, Copy)]
+#[derive(Clone, Copy, Debug, PartialEq, Eq)]
 pub struct TwinBanks {
     pub cores: u32,
     pub lone: u32,
@@ -30,7 +30,7 @@ impl TwinBanks {
 impl Fabric for TwinBanks {
     const MAX_BANKS: u32 = 2;
 
-    ghost most = { 2 };
+    ghost MAX_BANKS = { 2 };
 
     ghost means = { λ f. twin f.cores f.lone f.joint };
 
@@ -41,10 +41,6 @@ impl Fabric for TwinBanks {
     ghost fits = { λ f bank below. cond_both (bank == 0) f.lone f.joint (λ n. n < 2 ^ 32) (λ e. f.fits.0) (λ e. f.fits.1) };
 
     ghost homely = { λ f touching set. twin_homely f.cores f.lone f.joint touching set };
-
-    fn most_banks() -> u32 {
-        Self::MAX_BANKS
-    }
 
     fn cores(&self) -> u32 {
         self.cores

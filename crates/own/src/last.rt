@@ -5,7 +5,7 @@ ghost use Rattle.own.specs.Highest.{last_fit_is_a_fit_rule};
 use fit::{FitRule, Question, place_in};
 
 // Takes the highest gap that holds the object.
-#[derive(Clone, Copy)]
+#[derive(Clone, Copy, Debug, PartialEq, Eq)]
 pub struct LastFit;
 
 impl FitRule for LastFit {
@@ -14,11 +14,10 @@ impl FitRule for LastFit {
     ghost lawful = { λ r. last_fit_is_a_fit_rule };
 
     fn fit(&self, q: Question<'_>) -> Option<(u32, u32)> {
-        let mut last = None;
-        for gap in q.gaps {
-            last = place_in(*gap, q.size, q.grain).or(last);
-        }
-        last
+        q.gaps
+            .iter()
+            .rev()
+            .find_map(|gap| place_in(*gap, q.size, q.grain))
     }
 }
 

@@ -19,11 +19,10 @@ fn place<R: FitRule>(rule: &R) -> Option<u32> {
             end: 114,
         },
     ];
-    match ask(rule, &gaps, 5, 1) {
-        Ok(Some((place, _))) => Some(place),
-        Ok(None) => None,
-        Err(_) => None,
-    }
+    ask(rule, &gaps, 5, 1)
+        .ok()
+        .flatten()
+        .map(|(place, _)| place)
 }
 
 #[test]
@@ -48,10 +47,7 @@ fn takes_the_highest(rt: HostRuntime) {
 
 // The capacity of an object's lowest home.
 fn room<F: Fabric>(fabric: &F, touching: u64) -> Option<u32> {
-    match lowest(fabric.homes(touching)) {
-        Some(bank) => Some(fabric.capacity(bank)),
-        None => None,
-    }
+    lowest(fabric.homes(touching)).map(|bank| fabric.capacity(bank))
 }
 
 #[test]

@@ -42,11 +42,7 @@ pub fn count(w: u64) -> u32
 pub fn lowest(w: u64) -> Option<u32>
     ensures { MatchOption result ((w ≡ 0) × ((k : ℕ) → bit w k ≡ false)) (λ l. (0 < w) × (l < 64) × Lowest w l) }
 {
-    if w == 0 {
-        None
-    } else {
-        Some(w.trailing_zeros())
-    }
+    (w != 0).then(|| w.trailing_zeros())
 }
 
 // The set without its lowest number.
@@ -55,5 +51,5 @@ pub fn without_lowest(w: u64) -> u64
     ensures bits { (l : ℕ) → Lowest w l → (k : ℕ) → bit result k ≡ (bit w k && not (k == l)) }
     ensures smaller { 0 < w → result < w }
 {
-    if w == 0 { 0 } else { w & (w - 1) }
+    w & w.saturating_sub(1)
 }

@@ -1,12 +1,11 @@
-use Rattle.std.proofs.Common.{◌^◌, ◌<◌, sym, ◌∙◌, arith}
-use Rattle.std.proofs.lemmas.Bool.{le-ltb}
-use Rattle.words.proofs.Bits.{bit_read, bit_high}
+use Rattle.std.proofs.Common.{arith}
+use Rattle.std.proofs.lemmas.Bool.Decides.{nat_tests}
+use Rattle.std.proofs.lemmas.Nat.Bits.{bit_at_above, shr_and_one}
 use Rattle.words.proofs.has.Goals as goal
 
 pub returns-then-k-lt-ROOM : goal.returns-then-k-lt-ROOM
-returns-then-k-lt-ROOM c = bit_read c.args.w c.args.k
+returns-then-k-lt-ROOM c = grind (arith, nat_tests, shr_and_one c.args.w c.args.k)
 
 pub returns-else-k-lt-ROOM : goal.returns-else-k-lt-ROOM
 returns-else-k-lt-ROOM c =
-    let fits : c.args.w < 2 ^ 64 = omega arith in
-    le-ltb c.args.k 64 c.if-k-lt-ROOM.false ∙ sym (bit_high c.args.w 64 c.args.k fits c.if-k-lt-ROOM.false)
+    grind (arith, nat_tests, c.if-k-lt-ROOM.false, bit_at_above c.args.w 64 c.args.k (omega arith) c.if-k-lt-ROOM.false)

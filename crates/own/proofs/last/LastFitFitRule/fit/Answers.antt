@@ -1,15 +1,11 @@
-use Rattle.std.proofs.Common.{rules}
-use Rattle.own.specs.Highest.{leaves_all, leaves_more, leaves_none}
+use Rattle.std.proofs.Common.{rules, tests}
+use Rattle.std.proofs.iter.runs.Made.{chains}
+use Rattle.own.proofs.Found.{finds_last}
 use Rattle.own.proofs.last.LastFitFitRule.fit.Goals as goal
-
-pub loop-gap-init : goal.loop-gap-init
-loop-gap-init c = leaves_all c.args.q.gaps.now c.args.q.size c.args.q.grain
-
-pub loop-gap-preserved : goal.loop-gap-preserved
-loop-gap-preserved c =
-    leaves_more c.args.q.gaps.now c.args.q.size c.args.q.grain c.loop-gap.gap-index c.loop-gap.last c.or-last.result c.loop-gap.invariant
-    (record { start = 0; end = 0 }) c.loop-gap-test.true (search rules)
 
 pub returns : goal.returns
 returns c =
-    leaves_none c.args.q.gaps.now c.args.q.size c.args.q.grain c.loop-gap.gap-index c.loop-gap.last c.loop-gap.invariant c.loop-gap-test.false
+    let p = c.find_map.ensures.runs in
+    let seen = p.0.seen in
+    finds_last c.args.q.size c.args.q.grain c.args.q.gaps.now p.0 _ _ (search (rules, chains)) (λ w. search (rules, chains)) (λ k d h l. search (rules, chains))
+    (λ x r h k. search (rules, tests)) c.find_map.result p.2
