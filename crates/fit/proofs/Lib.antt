@@ -1,5 +1,5 @@
 mod Ascents
 pub mod Asked
-mod Keeping
+mod Found
 mod Outcomes
-mod Steps
+mod Tightest

@@ -1,10 +1,14 @@
 -- What a fit rule gives to a question from outside.
-use Rattle.std.specs.Prelude.{ℕ, ◌<◌, ◌≤◌, Bool, cond, ◌&&◌, List, length, Ok, Err, Option, Result, nat_le}
+use Rattle.std.specs.Prelude.{ℕ, ◌<◌, ◌≤◌, Bool, cond, ◌&&◌, List, length, None, Some, Ok, Err, Option, Result, nat_le, nat_lt}
 use Rattle.rules.specs.declared.memory.Stretch.{Stretch}
 use Rattle.rules.specs.Stretches.{Every}
 use Rattle.rules.specs.Fitting.{Answers, Ascending, OnTheTable, Proper, Rule, ascend_from, is_grain}
 use Rattle.fit.specs.declared.faults.AskFault.{AskFault}
 use Rattle.fit.specs.declared.faults.AskFault.TheVariants.{OffRange, TooMany}
+
+-- whether a gap has a byte and ends within 32 bits
+abbrev pub filled : Stretch → Bool
+filled g = nat_lt g.start g.end && nat_le g.end 4294967295
 
 -- whether size, grain and every gap are in range, however many gaps there are
 abbrev pub in_range : List Stretch → ℕ → ℕ → Bool
@@ -14,6 +18,10 @@ in_range gs size grain = nat_le 1 size && (nat_le size 16777216 && (is_grain gra
 abbrev pub asked : Rule → List Stretch → ℕ → ℕ → Result (Option (ℕ × ℕ)) AskFault
 asked rule gs size grain =
     cond (in_range gs size grain) (cond (nat_le (length gs) 256) (Ok (rule gs size grain)) (Err TooMany)) (Err OffRange)
+
+-- the refusal that a question meets, if it meets one
+abbrev pub refusal : List Stretch → ℕ → ℕ → Option AskFault
+refusal gs size grain = cond (in_range gs size grain) (cond (nat_le (length gs) 256) None (Some TooMany)) (Some OffRange)
 
 -- all that a proper question keeps but the count of its gaps
 pub record InRange (gs : List Stretch) (size grain : ℕ) : Type 0 where

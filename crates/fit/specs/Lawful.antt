@@ -4,11 +4,11 @@ use Rattle.rules.specs.declared.sheet.Fit.{Fit}
 use Rattle.rules.specs.declared.sheet.Fit.TheVariants.{First, Best}
 use Rattle.rules.specs.Fitting.{IsFitRule, Rule, ends_below, is_snug, low, snug}
 use Rattle.rules.proofs.Layers.{first_fit_is_a_fit_rule, best_fit_is_a_fit_rule, layer_is_a_fit_rule}
-use Rattle.fit.specs.Choosing.{first_of, best_of}
+use Rattle.rules.specs.Choosing.{first_of, best_of}
 use Rattle.fit.specs.Sheets.{by_fit, by_sheet}
 use Rattle.fit.specs.declared.sheet.SheetRule.{SheetRule}
 use Rattle.fit.specs.declared.sheet.SheetRule.TheVariants.{Plain, LowOnly, SnugOnly, LowOutside, SnugOutside}
-use Rattle.fit.specs.Chosen.{first_takes_the_lowest, best_takes_the_tightest}
+use Rattle.rules.proofs.Chosen.{first_takes_the_lowest, best_takes_the_tightest}
 
 pub low_lawful : (line : ℕ) (rule : Rule) → IsFitRule rule → IsFitRule (low line rule)
 low_lawful line rule = layer_is_a_fit_rule (λ g size grain. ends_below line g) rule

@@ -2,7 +2,7 @@
 use Rattle.rules.specs.declared.sheet.Fit.{Fit}
 use Rattle.rules.specs.declared.sheet.Fit.TheVariants.{First, Best}
 use Rattle.rules.specs.Fitting.{Rule, low, snug}
-use Rattle.fit.specs.Choosing.{first_of, best_of}
+use Rattle.rules.specs.Choosing.{first_of, best_of}
 use Rattle.fit.specs.declared.sheet.SheetRule.{SheetRule}
 use Rattle.fit.specs.declared.sheet.SheetRule.TheVariants.{Plain, LowOnly, SnugOnly, LowOutside, SnugOutside}
 

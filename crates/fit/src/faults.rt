@@ -3,10 +3,11 @@ ghost use Rattle.std.specs.Prelude.{◌≡◌};
 ghost use Rattle.fit.specs.Numbers.{number_of};
 
 // Why a fit rule refuses a question: a number off its range, or more gaps than a rule is asked about.
-#[derive(Clone, Copy)]
+// Each is the number of its refusal.
+#[derive(Clone, Copy, Debug, PartialEq, Eq)]
 pub enum AskFault {
-    OffRange,
-    TooMany,
+    OffRange = 5,
+    TooMany = 7,
 }
 
 impl AskFault {
@@ -14,9 +15,6 @@ impl AskFault {
     pub fn number(&self) -> u32
         ensures { result ≡ number_of self.now }
     {
-        match self {
-            AskFault::OffRange => 5,
-            AskFault::TooMany => 7,
-        }
+        *self as u32
     }
 }

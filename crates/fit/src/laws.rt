@@ -1,6 +1,6 @@
 // What the plain rules promise, in terms of the gaps alone.
 ghost use Rattle.rules.specs.Fitting.{IsBestFit, IsFirstFit};
-ghost use Rattle.fit.specs.Choosing.{best_of, first_of};
+ghost use Rattle.rules.specs.Choosing.{best_of, first_of};
 
 // First fit takes the lowest gap that holds the object.
 pub fn first_fit_takes_the_lowest()

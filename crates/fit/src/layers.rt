@@ -1,4 +1,5 @@
 // Layers: fit rules over any fit rule.
+// kept: two structs, since callers write their fields `line` and `limit`, and a rule for every layer would overlap the other rules
 ghost use Rattle.rules.specs.Fitting.{ends_below, is_snug, low, snug};
 ghost use Rattle.fit.specs.Lawful.{low_lawful, snug_lawful};
 
@@ -9,7 +10,7 @@ use crate::rule::FitRule;
 use rules::memory::Stretch;
 
 // Asks the rule below about the gaps that end at or below the line, then about all.
-#[derive(Clone, Copy)]
+#[derive(Clone, Copy, Debug, PartialEq, Eq)]
 pub struct Low<R: FitRule> {
     pub line: u32,
     pub rule: R,
@@ -34,7 +35,7 @@ impl<R: FitRule> FitRule for Low<R> {
 }
 
 // Asks the rule below about the gaps that hold the object with at most `limit` bytes left over, then about all.
-#[derive(Clone, Copy)]
+#[derive(Clone, Copy, Debug, PartialEq, Eq)]
 pub struct Snug<R: FitRule> {
     pub limit: u32,
     pub rule: R,
@@ -44,10 +45,7 @@ impl<R: FitRule> Preference for Snug<R> {
     ghost preferred = { λ s. is_snug s.limit };
 
     fn prefers(&self, gap: Stretch, q: Question<'_>) -> bool {
-        match place_in(gap, q.size, q.grain) {
-            Some((_, left)) => left <= self.limit,
-            None => false,
-        }
+        place_in(gap, q.size, q.grain).is_some_and(|(_, left)| left <= self.limit)
     }
 }
 

@@ -10,10 +10,11 @@ mod layers;
 mod place;
 mod preference;
 mod question;
+mod range;
 mod rule;
 mod sheet;
 
-pub use asking::{MOST_SIZE, ask};
+pub use asking::ask;
 pub use best::BestFit;
 pub use faults::AskFault;
 pub use first::FirstFit;
@@ -21,7 +22,7 @@ pub use laws::{best_fit_takes_the_tightest, first_fit_takes_the_lowest};
 pub use layers::{Low, Snug};
 pub use place::{place_in, round_up};
 pub use preference::{Preference, ask_first};
-pub use question::{MOST_GAPS, Question};
+pub use question::{MOST_GAPS, MOST_SIZE, Question};
 pub use rule::FitRule;
 pub use sheet::{NamedFit, SheetRule};
 

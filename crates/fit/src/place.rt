@@ -1,7 +1,7 @@
 // Places on the grain.
 ghost use Rattle.std.specs.Prelude.{◌≡◌, ◌+◌, ◌≤◌};
 ghost use Rattle.rules.specs.Stretches.{rounded_up};
-ghost use Rattle.fit.specs.Choosing.{offer};
+ghost use Rattle.rules.specs.Choosing.{offer};
 
 use rules::memory::Stretch;
 
@@ -14,7 +14,7 @@ pub fn round_up(start: u32, grain: u32) -> u64
         return 0;
     }
     let step = u64::from(grain);
-    (u64::from(start) + (step - 1)) / step * step
+    u64::from(start).div_ceil(step) * step
 }
 
 // The answer that takes this gap, if the gap holds the object.
@@ -23,9 +23,5 @@ pub fn place_in(gap: Stretch, size: u32, grain: u32) -> Option<(u32, u32)>
 {
     let place = round_up(gap.start, grain);
     let end = place + u64::from(size);
-    if end <= u64::from(gap.end) {
-        Some((place as u32, gap.end - end as u32))
-    } else {
-        None
-    }
+    (end <= u64::from(gap.end)).then(|| (place as u32, gap.end - end as u32))
 }

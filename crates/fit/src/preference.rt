@@ -1,10 +1,11 @@
 // Asking a rule first about some of the gaps.
-ghost use Rattle.std.specs.Prelude.{◌≡◌, ℕ, ◌≤◌, Bool, length, take, filter};
+ghost use Rattle.std.specs.Prelude.{◌≡◌, ℕ, Bool};
 ghost use Rattle.rules.specs.declared.memory.Stretch.{Stretch};
 ghost use Rattle.rules.specs.Fitting.{asks_first};
 
 use crate::question::{MOST_GAPS, Question};
 use crate::rule::FitRule;
+use arrayvec::ArrayVec;
 use rules::memory::Stretch;
 
 // Which gaps to ask about first.
@@ -24,30 +25,20 @@ pub fn ask_first<P: Preference, R: FitRule>(
 ) -> Option<(u32, u32)>
     ensures { result ≡ asks_first (P.Preference.preferred preference.now) (R.FitRule.answers rule.now) q.entry.gaps.now q.entry.size q.entry.grain }
 {
-    let mut kept = [Stretch { start: 0, end: 0 }; MOST_GAPS];
-    let n = keep(preference, q, &mut kept);
-    match rule.fit(Question {
-        gaps: &kept[0..n],
-        size: q.size,
-        grain: q.grain,
-    }) {
-        Some(found) => Some(found),
-        None => rule.fit(q),
-    }
-}
-
-// Writes the preferred gaps in their order, and says how many there are.
-fn keep<P: Preference>(preference: &P, q: Question<'_>, out: &mut [Stretch]) -> usize
-    requires room { length q.gaps.now ≤ length out.old }
-    ensures count { result ≤ length q.entry.gaps.now }
-    ensures kept { take result out.new ≡ filter (λ g. P.Preference.preferred preference.now g q.entry.size q.entry.grain) q.entry.gaps.now }
-{
-    let mut n = 0;
+    let mut kept = ArrayVec::<Stretch, MOST_GAPS>::new();
     for gap in q.gaps {
         if preference.prefers(*gap, q) {
-            out[n] = *gap;
-            n += 1;
+            kept.push(*gap);
         }
     }
-    n
+    let preferred = Question {
+        gaps: kept.as_slice(),
+        size: q.size,
+        grain: q.grain,
+    };
+    // kept: `or_else` would need the rule's answer spelled in a clause of its closure
+    match rule.fit(preferred) {
+        None => rule.fit(q),
+        found => found,
+    }
 }

@@ -12,7 +12,7 @@ use crate::rule::FitRule;
 use rules::sheet::{Fit, Layer};
 
 // The rule that a sheet's fit names.
-#[derive(Clone, Copy)]
+#[derive(Clone, Copy, Debug, PartialEq, Eq)]
 pub struct NamedFit(pub Fit);
 
 impl FitRule for NamedFit {
@@ -29,7 +29,7 @@ impl FitRule for NamedFit {
 }
 
 // The rule of a sheet: the fit that it names, under at most one layer of each sort.
-#[derive(Clone, Copy)]
+#[derive(Clone, Copy, Debug, PartialEq, Eq)]
 pub enum SheetRule {
     Plain(NamedFit),
     LowOnly(Low<NamedFit>),
@@ -45,26 +45,16 @@ impl SheetRule {
     {
         let rule = NamedFit(fit);
         match layers {
-            [.., Layer::LowLine(line), Layer::SnugLimit(limit)] => {
-                SheetRule::SnugOutside(Snug {
-                    limit: *limit,
-                    rule: Low { line: *line, rule },
-                })
-            }
-            [.., Layer::SnugLimit(limit), Layer::LowLine(line)] => {
-                SheetRule::LowOutside(Low {
-                    line: *line,
-                    rule: Snug {
-                        limit: *limit,
-                        rule,
-                    },
-                })
-            }
-            [.., Layer::LowLine(line)] => SheetRule::LowOnly(Low { line: *line, rule }),
-            [.., Layer::SnugLimit(limit)] => SheetRule::SnugOnly(Snug {
-                limit: *limit,
-                rule,
+            &[.., Layer::LowLine(line), Layer::SnugLimit(limit)] => SheetRule::SnugOutside(Snug {
+                limit,
+                rule: Low { line, rule },
             }),
+            &[.., Layer::SnugLimit(limit), Layer::LowLine(line)] => SheetRule::LowOutside(Low {
+                line,
+                rule: Snug { limit, rule },
+            }),
+            &[.., Layer::LowLine(line)] => SheetRule::LowOnly(Low { line, rule }),
+            &[.., Layer::SnugLimit(limit)] => SheetRule::SnugOnly(Snug { limit, rule }),
             [] => SheetRule::Plain(rule),
         }
     }
@@ -76,6 +66,7 @@ impl FitRule for SheetRule {
     ghost lawful = { λ r. by_sheet_lawful r };
 
     fn fit(&self, q: Question<'_>) -> Option<(u32, u32)> {
+        // kept: each arm calls the `fit` of another type
         match self {
             SheetRule::Plain(rule) => rule.fit(q),
             SheetRule::LowOnly(rule) => rule.fit(q),

@@ -1,18 +1,19 @@
-use Rattle.std.proofs.Common.{arith, rules}
-use Rattle.fit.proofs.Outcomes.{gives_answer, gives_off_range, gives_too_many}
+use Rattle.std.proofs.lemmas.Grind.{common_steps}
+use Rattle.std.proofs.Common.{◌≡◌, Ok, sym, subst, arith}
+use Rattle.fit.specs.Asking.{Outcome, asked}
+use Rattle.fit.proofs.Outcomes.{asked_outcome}
 use Rattle.fit.proofs.asking.ask.Goals as goal
 
-pub returns-then-not-is_in_range : goal.returns-then-not-is_in_range
-returns-then-not-is_in_range g c =
-    let o = gives_off_range c.args.gaps.now c.args.size c.args.grain (g.R.FitRule.answers c.args.rule.now) (search rules) in
-    record { value = o.0; outcome = o.1 }
+pub returns-in_err-new-clause-outcome : goal.returns-in_err-new-clause-outcome
+returns-in_err-new-clause-outcome g c =
+    let rule = g.R.FitRule.answers c.args.rule.now in
+    let v : c.from_residual.result ≡ asked rule c.args.gaps.now c.args.size c.args.grain = grind (arith, common_steps) in
+    subst (λ r. Outcome rule c.args.gaps.now c.args.size c.args.grain r) (sym v)
+    (asked_outcome c.args.gaps.now c.args.size c.args.grain rule (g.met.R.FitRule.lawful c.args.rule.now))
 
-pub returns-then-gaps-gt-MOST_GAPS : goal.returns-then-gaps-gt-MOST_GAPS
-returns-then-gaps-gt-MOST_GAPS g c =
-    let o = gives_too_many c.args.gaps.now c.args.size c.args.grain (g.R.FitRule.answers c.args.rule.now) (search rules) (omega arith) in
-    record { value = o.0; outcome = o.1 }
-
-pub returns : goal.returns
-returns g c =
-    let o = gives_answer c.args.gaps.now c.args.size c.args.grain (g.R.FitRule.answers c.args.rule.now) (g.met.R.FitRule.lawful c.args.rule.now) (search rules) (omega arith) c.fit.result c.fit.ensures in
-    record { value = o.0; outcome = o.1 }
+pub returns-clause-outcome : goal.returns-clause-outcome
+returns-clause-outcome g c =
+    let rule = g.R.FitRule.answers c.args.rule.now in
+    let v : Ok c.fit.result ≡ asked rule c.args.gaps.now c.args.size c.args.grain = grind (arith, common_steps) in
+    subst (λ r. Outcome rule c.args.gaps.now c.args.size c.args.grain r) (sym v)
+    (asked_outcome c.args.gaps.now c.args.size c.args.grain rule (g.met.R.FitRule.lawful c.args.rule.now))

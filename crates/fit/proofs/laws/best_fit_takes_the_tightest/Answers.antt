@@ -1,4 +1,4 @@
-use Rattle.fit.specs.Chosen.{best_takes_the_tightest}
+use Rattle.rules.proofs.Chosen.{best_takes_the_tightest}
 use Rattle.fit.proofs.laws.best_fit_takes_the_tightest.Goals as goal
 
 pub returns : goal.returns

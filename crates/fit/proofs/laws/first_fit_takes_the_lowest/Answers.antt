@@ -1,4 +1,4 @@
-use Rattle.fit.specs.Chosen.{first_takes_the_lowest}
+use Rattle.rules.proofs.Chosen.{first_takes_the_lowest}
 use Rattle.fit.proofs.laws.first_fit_takes_the_lowest.Goals as goal
 
 pub returns : goal.returns

@@ -1,18 +1,15 @@
-use Rattle.std.proofs.Common.{sym, ap, ◌∙◌}
-use Rattle.fit.specs.Choosing.{taken}
-use Rattle.fit.proofs.Steps.{best_goes_on, best_ends}
+use Rattle.std.proofs.Common.{rules, tests}
+use Rattle.std.proofs.lemmas.Iterator.{YieldsList-from_slice}
+use Rattle.std.proofs.lemmas.Iterator.Consumers.{YieldsList-at, YieldsList-from_filter}
+use Rattle.rules.specs.Fitting.{width}
+use Rattle.fit.proofs.Tightest.{holds, least_from_yields_List, takes_best}
 use Rattle.fit.proofs.best.BestFitFitRule.fit.Goals as goal
 
-pub loop-gap-preserved : goal.loop-gap-preserved
-loop-gap-preserved c =
-    best_goes_on c.args.q.gaps.now c.args.q.size c.args.q.grain c.loop-gap.gap-index _ _ c.loop-gap.invariant _ c.loop-gap-test.true c.tighter-best.ensures
-
-pub returns-in-Some : goal.returns-in-Some
-returns-in-Some c =
-    c.place_in.ensures ∙ sym (ap (taken c.args.q.size c.args.q.grain) c.in-Some.is)
-    ∙ best_ends c.args.q.gaps.now c.args.q.size c.args.q.grain c.loop-gap.gap-index _ c.loop-gap.invariant c.loop-gap-test.false
-
-pub returns-in-None : goal.returns-in-None
-returns-in-None c =
-    sym (ap (taken c.args.q.size c.args.q.grain) c.in-None.is)
-    ∙ best_ends c.args.q.gaps.now c.args.q.size c.args.q.grain c.loop-gap.gap-index _ c.loop-gap.invariant c.loop-gap-test.false
+pub returns : goal.returns
+returns c =
+    takes_best c.args.q.size c.args.q.grain c.args.q.gaps.now c.min_by_key.result c.and_then.result _
+    (least_from_yields_List width _ c.min_by_key.result c.min_by_key.ensures.ran
+    (YieldsList-from_filter _ (holds c.args.q.size c.args.q.grain) (YieldsList-at c.filter.ensures.source (YieldsList-from_slice c.args.q.gaps.now c.iter.ensures.rest))
+    c.filter.ensures.closure (λ x b q k. search (rules, tests)))
+    (λ x k q h. search (rules, tests)))
+    c.and_then.ensures (λ x k. search (rules, tests))

@@ -1,15 +1,12 @@
-use Rattle.std.proofs.Common.{sym}
-use Rattle.fit.proofs.Steps.{first_takes, first_passes, first_absent}
+use Rattle.std.proofs.Common.{ap, ◌∙◌, subst, rules, tests}
+use Rattle.std.specs.Iterator.Runs.{ItemsMapTo}
+use Rattle.std.specs.Slice.Iter.{iter_rest}
+use Rattle.fit.proofs.Found.{finds_first}
 use Rattle.fit.proofs.first.FirstFitFitRule.fit.Goals as goal
-
-pub returns-in-Some : goal.returns-in-Some
-returns-in-Some c =
-    first_takes c.args.q.gaps.now c.args.q.size c.args.q.grain c.loop-gap.gap-index c.loop-gap.invariant _ c.loop-gap-test.true _ (sym c.in-Some.ensures)
-
-pub loop-gap-preserved : goal.loop-gap-preserved
-loop-gap-preserved c =
-    first_passes c.args.q.gaps.now c.args.q.size c.args.q.grain c.loop-gap.gap-index c.loop-gap.invariant _ c.loop-gap-test.true (sym c.in_default.ensures)
 
 pub returns : goal.returns
 returns c =
-    first_absent c.args.q.gaps.now c.args.q.size c.args.q.grain c.loop-gap.gap-index c.loop-gap.invariant c.loop-gap-test.false
+    let p = c.find_map.ensures.runs in
+    finds_first c.args.q.size c.args.q.grain c.args.q.gaps.now p.0 _ _
+    (subst (λ xs. ItemsMapTo p.0 (λ y. y.now) xs) (ap iter_rest p.1 ∙ c.iter.ensures.rest) (c.iter.ensures.runs p.0 p.0.seen))
+    (λ x r q k. search (rules, tests)) c.find_map.result p.2
