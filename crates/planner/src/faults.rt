@@ -10,7 +10,7 @@ use std::fmt;
 use text::faults::TextFault;
 
 // A refused reading, a question to a plan that is not placed, or a placing that fails.
-#[derive(Clone, Copy)]
+#[derive(Clone, Copy, Debug, PartialEq, Eq)]
 pub enum JobFault {
     Graph(GraphFault),
     // no sheet was read
