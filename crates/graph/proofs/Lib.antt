@@ -6,7 +6,6 @@ pub mod Ties
 pub mod Sets
 pub mod Kept
 pub mod Exclusive
-pub mod Drafted
 pub mod Ranged
 pub mod Judged
 pub mod JudgedLinks

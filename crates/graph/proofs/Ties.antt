@@ -1,16 +1,15 @@
 -- A table holds the order of links with one link more.
-use Rattle.std.proofs.Common.{◌≡◌, ℕ, ◌+◌, Bool, true, false, ◌&&◌, eqb, List, [], ◌∷◌, ◌++◌, Some, None, Ok, Err, Option, Result, is_some, sym, refl, ap, ◌∙◌, subst, inl, inr, ⊎_elim, arith}
+use Rattle.std.proofs.Common.{◌≡◌, ℕ, ◌+◌, Bool, true, false, ◌&&◌, eqb, List, [], ◌∷◌, ◌++◌, sym, refl, ap, ◌∙◌, subst, inl, inr, ⊎_elim, arith}
 use Rattle.std.proofs.lemmas.Bool.{or_cases, or_left, or_right, and_parts, and_from, eqb-true, eq-eqb}
 use Rattle.rules.specs.declared.sheet.Link.{Link}
 use Rattle.rules.specs.declared.sheet.Sequence.{Sequence}
 use Rattle.rules.specs.Order.{Linked, UpTo, edges}
-use Rattle.rules.specs.declared.sheet.Fifo.{Fifo}
 use Rattle.rules.specs.declared.sheet.Link.TheVariants.{Plain, Delayed, Ordered}
 use Rattle.rules.specs.Drafts.{Orders, from, to, fifo_count}
 use Rattle.rules.proofs.Chains.{closes}
 use Rattle.rules.proofs.Orderings.{linked, no_chain}
 use Rattle.rules.proofs.Joining.{link_adds_a_pair, other_link_adds_none}
-use Rattle.graph.specs.Rows.{before, up_to, joined, may_join}
+use Rattle.graph.specs.Rows.{before, up_to, joined}
 use Rattle.graph.specs.Orders.{Heard, Meant}
 
 -- where the bit is set a chain leads
