@@ -1,4 +1,3 @@
-mod SizeLaws
 pub mod Listed
 pub mod Relations
 pub mod Tables
