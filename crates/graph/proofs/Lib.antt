@@ -1,4 +1,3 @@
-mod SizeLaws
 pub mod Listed
 pub mod Relations
 pub mod Tables
@@ -6,7 +5,6 @@ pub mod Ties
 pub mod Sets
 pub mod Kept
 pub mod Exclusive
-pub mod Drafted
 pub mod Ranged
 pub mod Judged
 pub mod JudgedLinks

@@ -1,5 +1,5 @@
 -- Tables of rows.
-use Rattle.std.proofs.Common.{◌≡◌, ℕ, ◌+◌, ◌/◌, ◌%◌, ◌^◌, ◌<◌, ◌≤◌, true, false, not, ◌&&◌, ◌||◌, eqb, ltb, ◌≢◌, ◌⊎◌, List, length, get_or, set, replicate, sym, refl, ap, ◌∙◌, subst, inl, inr, arith, ne_eqb}
+use Rattle.std.proofs.Common.{◌≡◌, ℕ, ◌+◌, ◌/◌, ◌%◌, ◌^◌, ◌<◌, ◌≤◌, true, false, not, ◌&&◌, ◌||◌, eqb, ltb, ◌≢◌, ◌⊎◌, List, length, get_or, set, replicate, sym, ap, ◌∙◌, subst, inl, inr, arith, ne_eqb}
 use mathlib.Core.Bool.{or_comm}
 use Rattle.std.proofs.Math.Bool.{or-false}
 use lib.Bits.{bit_or}
@@ -42,10 +42,6 @@ row_stays old w a b x same up y =
     ap (λ v. eqb (v / 2 ^ y % 2) 1) same
     ∙ (sym (or-false (before old x y))
     ∙ ap (λ v. before old x y || (v && up_to (before old) b y)) (sym up))
-
--- the rows before the first turn
-pub growing_none : (old : List ℕ) (a b : ℕ) → length old ≡ 64 → Growing old old a b 0
-growing_none old a b l = record { long = l; done = λ x y h. absurd (omega arith); rest = λ x h. refl }
 
 -- a row is written
 pub growing_write : (old rows : List ℕ) (a b i w : ℕ) → i < 64 → ((y : ℕ) → bit w y ≡ joined (before old) a b i y) → Growing old rows a b i → Growing old (set rows i w) a b (i + 1)

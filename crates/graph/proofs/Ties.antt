@@ -1,28 +1,20 @@
 -- A table holds the order of links with one link more.
-use Rattle.std.proofs.Common.{◌≡◌, ℕ, ◌+◌, Bool, true, false, ◌&&◌, eqb, List, [], ◌∷◌, ◌++◌, Some, None, Ok, Err, Option, Result, is_some, sym, refl, ap, ◌∙◌, subst, inl, inr, ⊎_elim, arith}
+use Rattle.std.proofs.Common.{◌≡◌, ℕ, ◌+◌, Bool, true, false, ◌&&◌, eqb, List, [], ◌∷◌, ◌++◌, sym, refl, ap, ◌∙◌, subst, inl, inr, ⊎_elim, arith}
 use Rattle.std.proofs.lemmas.Bool.{or_cases, or_left, or_right, and_parts, and_from, eqb-true, eq-eqb}
 use Rattle.rules.specs.declared.sheet.Link.{Link}
 use Rattle.rules.specs.declared.sheet.Sequence.{Sequence}
 use Rattle.rules.specs.Order.{Linked, UpTo, edges}
-use Rattle.rules.specs.declared.sheet.Fifo.{Fifo}
 use Rattle.rules.specs.declared.sheet.Link.TheVariants.{Plain, Delayed, Ordered}
 use Rattle.rules.specs.Drafts.{Orders, from, to, fifo_count}
 use Rattle.rules.proofs.Chains.{closes}
-use Rattle.rules.proofs.Orderings.{linked, no_chain}
+use Rattle.rules.proofs.Orderings.{linked}
 use Rattle.rules.proofs.Joining.{link_adds_a_pair, other_link_adds_none}
-use Rattle.graph.specs.Rows.{before, up_to, joined, may_join}
+use Rattle.graph.specs.Rows.{before, up_to, joined}
 use Rattle.graph.specs.Orders.{Heard, Meant}
 
 -- where the bit is set a chain leads
 pub told : (rows : List ℕ) (links : List Link) → Meant rows links → (x y : ℕ) → before rows x y ≡ true → Linked (edges links) x y
 told rows links meant x y set = ⊎_elim (λ h. h) (λ no. let clear = meant x y no in absurd (cc)) (linked (edges links) x y)
-
--- empty rows hold the order of no links
-pub heard_none : (rows : List ℕ) → ((a b : ℕ) → before rows a b ≡ false) → Heard rows []
-heard_none rows none x y h = absurd (no_chain h)
-
-pub meant_none : (rows : List ℕ) → ((a b : ℕ) → before rows a b ≡ false) → Meant rows []
-meant_none rows none x y h = none x y
 
 -- at or before, by rows and by chains
 up_heard : (rows : List ℕ) (links : List Link) → Heard rows links → (x a : ℕ) → UpTo (edges links) x a → up_to (before rows) x a ≡ true

@@ -1,5 +1,5 @@
 -- What was taken by a decision was taken by the rules.
-use Rattle.std.proofs.Common.{◌≡◌, ℕ, ◌≤◌, true, false, List, [], ◌∷◌, ◌++◌, length, None, Ok, Err, is_ok, vec_items, vec_len, Option, Result, sym, ◌∙◌, subst}
+use Rattle.std.proofs.Common.{◌≡◌, ℕ, ◌≤◌, true, false, length, None, Ok, Err, is_ok, vec_items, vec_len, Option, Result, sym, ◌∙◌, subst}
 use Rattle.rules.specs.declared.sheet.Machine.{Machine}
 use Rattle.rules.specs.declared.sheet.Fit.{Fit}
 use Rattle.rules.specs.declared.sheet.Layer.{Layer}

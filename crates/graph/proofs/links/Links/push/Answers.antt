@@ -1,4 +1,4 @@
-use Rattle.std.proofs.Common.{◌≡◌, ◌+◌, [], ◌∷◌, ◌++◌, vec_items, ap, ◌∙◌, arith}
+use Rattle.std.proofs.Common.{vec_items, ap, ◌∙◌, arith}
 use Rattle.rules.specs.Drafts.{fifo_count}
 use Rattle.graph.proofs.Ties.{fifo_count_more, order_pushed, order_kept}
 use Rattle.graph.proofs.links.Links.push.Goals as goal
