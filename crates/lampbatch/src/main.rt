@@ -21,6 +21,7 @@ fn next_sheet(input: &[u8]) -> Option<(&[u8], &[u8])>
 
 // Prints what one sheet gives.
 fn print_answer(rt: &HostRuntime, plan: &mut Plan, sheet: &[u8], out: &mut [u8]) -> io::Result<()> {
+    // kept: the memory that the plan is lent
     let mut memory = [Candidate::default(); 256];
     match plan.answer(sheet, &mut memory, out) {
         Ok(end) => rt.stdout().write_all(&out[0..end])?,
@@ -37,6 +38,7 @@ fn main(rt: HostRuntime) -> anyhow::Result<()> {
     let mut plan = Plan::new(rt.alloc())?;
     let mut out = vec![in rt.alloc(); 0; MOST_MAP]?;
     let mut rest = input.as_slice();
+    // kept: each turn takes a sheet off the front of the rest; an iterator over sheets would need a type and laws of its own
     while let Some((sheet, more)) = next_sheet(rest) {
         print_answer(&rt, &mut plan, sheet, out.as_mut_slice())?;
         rest = more;

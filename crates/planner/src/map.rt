@@ -21,32 +21,21 @@ fn put_line(map: &mut MapText, letter: &str, a: u32, b: u32, c: u32) -> fmt::Res
     writeln!(map, "{letter} {a} {b} {c}")
 }
 
-// Writes the line `B bank footprint capacity` of each bank.
-fn put_banks(map: &mut MapText, layout: &Layout) -> fmt::Result {
-    for (number, bank) in layout.banks().iter().enumerate() {
-        put_line(map, "B", number as u32, bank.footprint, bank.capacity)?;
-    }
-    Ok(())
-}
-
-// Writes the line `O object bank place` of each home of object x, by bank.
-fn put_homes(map: &mut MapText, layout: &Layout, x: u32) -> fmt::Result {
-    // kept: a layout is asked by the numbers that are printed, of object and bank
-    for bank in 0..layout.banks().len() as u32 {
-        if let Some(place) = layout.place(x, bank) {
-            put_line(map, "O", x, bank, place)?;
-        }
-    }
-    Ok(())
-}
-
-// Writes the whole map.
+// Writes the header, the line `B bank footprint capacity` of each bank, and the line `O object bank place` of each home.
 pub(crate) fn put_map(map: &mut MapText, layout: &Layout) -> fmt::Result {
     map.write_str("LGM 1\n")?;
-    put_banks(map, layout)?;
-    // kept: as for the banks
+    let banks = layout.banks();
+    for (number, bank) in banks.iter().enumerate() {
+        put_line(map, "B", number as u32, bank.footprint, bank.capacity)?;
+    }
+    // kept: a layout is asked by the numbers that are printed, of object and bank
     for x in 0..layout.len() {
-        put_homes(map, layout, x)?;
+        // kept: as above
+        for bank in 0..banks.len() as u32 {
+            if let Some(place) = layout.place(x, bank) {
+                put_line(map, "O", x, bank, place)?;
+            }
+        }
     }
     Ok(())
 }
