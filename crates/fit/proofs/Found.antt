@@ -1,11 +1,12 @@
 -- First fit finds the first gap that holds the size.
 use Rattle.std.proofs.Common.{◌≡◌, ℕ, zero, suc, ◌+◌, ◌<◌, List, [], ◌∷◌, length, get_or, Some, None, Option, Bor, refl, sym, ap, ◌∙◌, arith}
-use Rattle.std.specs.Option.{option_or, option_map, MatchOption, IsSomeAnd, IfSome}
+use Rattle.std.specs.Option.{option_or, MatchOption}
 use Rattle.std.specs.Bool.{IsTrue}
 use Rattle.std.specs.Fn.{Called}
 use Rattle.std.specs.Iterator.Runs.{Run, ItemsMapTo, AllItemsGive, IsFirstToGive}
 use denote.Param.Members.{Mut}
 use Rattle.rules.specs.declared.memory.Stretch.{Stretch}
+use Rattle.fit.proofs.Offers.{gave, gave_some, keeps}
 use Rattle.rules.specs.Choosing.{offer, first_of}
 
 module _ (size grain : ℕ) where
@@ -24,25 +25,13 @@ module _ (size grain : ℕ) where
 -- a run over the gaps, with a closure that places the object in one
 module _ {S F : Type 0} {steps : S → Option (Bor Stretch) → S → Type 0} (size grain : ℕ) (gs : List Stretch) (p : Run steps) (g : Mut F (Bor Stretch × Unit {0}) (Option (ℕ × ℕ)))
     (f : F) (read : ItemsMapTo p (λ y. y.now) gs) (places : (x : Bor Stretch) (r : Option (ℕ × ℕ)) (q : F) → Called g f (x, tt) r q → (q ≡ f) × (r ≡ offer x.now size grain)) where
-  gave : (r : Option (ℕ × ℕ)) (o : Option (Bor Stretch)) (h : Stretch) → option_map (λ y. y.now) o ≡ Some h → IfSome o (λ x. Called g f (x, tt) r f) → offer h size grain ≡ r
-  gave r None h e c = cc
-  gave r (Some x) h e c =
-      let same : x.now ≡ h = cc in sym ((places x r f c).1 ∙ ap (λ y. offer y size grain) same)
-
-  gave_some : (r : Option (ℕ × ℕ)) (o : Option (Bor Stretch)) (h : Stretch) → option_map (λ y. y.now) o ≡ Some h → IsSomeAnd o (λ x. Called g f (x, tt) r f) → offer h size grain ≡ r
-  gave_some r None h e c = cc
-  gave_some r (Some x) h e c = gave r (Some x) h e c
-
-  keeps : (a : Bor Stretch × Unit {0}) (r : Option (ℕ × ℕ)) (q : F) → Called g f a r q → q ≡ f
-  keeps a r q c = (places a.0 r q c).0
-
   pub finds_first : (r : Option (ℕ × ℕ)) →
       MatchOption r (IsTrue p.whole × AllItemsGive p g f None) (λ y. (i : ℕ) × (i < p.len) × (p.len ≡ i + 1) × IsFirstToGive p g f (Some y) None i) → r ≡ first_of gs size grain
   finds_first None m =
       let len : p.len ≡ length gs = read.1 m.0 in
-      first_absent size grain gs (λ k d h. gave None (p.at k) (get_or gs k d) (read.2 k d (omega arith)) (m.1 keeps k))
+      first_absent size grain gs (λ k d h. gave size grain g f places None (p.at k) (get_or gs k d) (read.2 k d (omega arith)) (m.1 (keeps size grain g f places) k))
   finds_first (Some a) m =
       let d : Stretch = record { start = 0; end = 0 } in
-      let all = m.3 keeps in
-      first_at size grain gs m.0 d a (omega (arith, m.1, read.0)) (gave_some (Some a) (p.at m.0) (get_or gs m.0 d) (read.2 m.0 d m.1) all.0)
-      (λ k l. gave_some None (p.at k) (get_or gs k d) (read.2 k d (omega (arith, m.1))) (all.1 k l))
+      let all = m.3 (keeps size grain g f places) in
+      first_at size grain gs m.0 d a (omega (arith, m.1, read.0)) (gave_some size grain g f places (Some a) (p.at m.0) (get_or gs m.0 d) (read.2 m.0 d m.1) all.0)
+      (λ k l. gave_some size grain g f places None (p.at k) (get_or gs k d) (read.2 k d (omega (arith, m.1))) (all.1 k l))

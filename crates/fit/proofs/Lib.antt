@@ -1,5 +1,6 @@
 mod Ascents
 pub mod Asked
+pub mod Offers
 mod Found
 mod Outcomes
 mod Tightest

@@ -1,11 +1,12 @@
 -- Last fit finds the last gap that holds the size.
 use Rattle.std.proofs.Common.{◌≡◌, ℕ, zero, suc, ◌+◌, ◌-◌, ◌<◌, ◌≤◌, true, List, [], ◌∷◌, length, get_or, Some, None, Option, Bor, refl, sym, ap, subst, ◌∙◌, arith}
-use Rattle.std.specs.Option.{option_or, option_map, MatchOption, IsSomeAnd, IfSome}
+use Rattle.std.specs.Option.{option_or, option_map, MatchOption, IsSomeAnd}
 use Rattle.std.specs.Bool.{IsTrue}
 use Rattle.std.specs.Fn.{Called}
 use Rattle.std.specs.Iterator.Runs.{Run, AllItemsGive, IsFirstToGive}
 use denote.Param.Members.{Mut}
 use Rattle.rules.specs.declared.memory.Stretch.{Stretch}
+use Rattle.fit.proofs.Offers.{gave, gave_some, keeps}
 use Rattle.rules.specs.Choosing.{offer}
 use Rattle.own.specs.Lasting.{last_of}
 
@@ -28,31 +29,19 @@ module _ {S F : Type 0} {steps : S → Option (Bor Stretch) → S → Type 0} (s
     (g : Mut F (Bor Stretch × Unit {0}) (Option (ℕ × ℕ))) (f : F) (within : p.len ≤ length gs) (all_read : p.whole ≡ true → p.len ≡ length gs)
     (item : (k : ℕ) (d : Stretch) → k < length gs → length gs - 1 - k < p.len → option_map (λ y. y.now) (p.at (length gs - 1 - k)) ≡ Some (get_or gs k d))
     (places : (x : Bor Stretch) (r : Option (ℕ × ℕ)) (h : F) → Called g f (x, tt) r h → (h ≡ f) × (r ≡ offer x.now size grain)) where
-  gave : (r : Option (ℕ × ℕ)) (o : Option (Bor Stretch)) (h : Stretch) → option_map (λ y. y.now) o ≡ Some h → IfSome o (λ x. Called g f (x, tt) r f) → offer h size grain ≡ r
-  gave r None h e c = cc
-  gave r (Some x) h e c =
-      let equal : x.now ≡ h = cc in sym ((places x r f c).1 ∙ ap (λ y. offer y size grain) equal)
-
-  gave_some : (r : Option (ℕ × ℕ)) (o : Option (Bor Stretch)) (h : Stretch) → option_map (λ y. y.now) o ≡ Some h → IsSomeAnd o (λ x. Called g f (x, tt) r f) → offer h size grain ≡ r
-  gave_some r None h e c = cc
-  gave_some r (Some x) h e c = gave r (Some x) h e c
-
-  keeps : (a : Bor Stretch × Unit {0}) (r : Option (ℕ × ℕ)) (h : F) → Called g f a r h → h ≡ f
-  keeps a r h c = (places a.0 r h c).0
-
   pub finds_last : (r : Option (ℕ × ℕ)) →
       MatchOption r (IsTrue p.whole × AllItemsGive p g f None) (λ y. (i : ℕ) × (i < p.len) × (p.len ≡ i + 1) × IsFirstToGive p g f (Some y) None i) → r ≡ last_of gs size grain
   finds_last None m =
       let len : p.len ≡ length gs = all_read m.0 in
       sym (last_absent size grain gs
-      (λ k d h. gave None (p.at (length gs - 1 - k)) (get_or gs k d) (item k d h (omega arith)) (m.1 keeps (length gs - 1 - k))))
+      (λ k d h. gave size grain g f places None (p.at (length gs - 1 - k)) (get_or gs k d) (item k d h (omega arith)) (m.1 (keeps size grain g f places) (length gs - 1 - k))))
   finds_last (Some a) m =
       let d : Stretch = record { start = 0; end = 0 } in
-      let all = m.3 keeps in
+      let all = m.3 (keeps size grain g f places) in
       let i = m.0 in
       let k : ℕ = length gs - 1 - i in
       let back : i ≡ length gs - 1 - k = omega (arith, m.1) in
       sym (last_at size grain gs k d a (omega (arith, m.1))
-      (gave_some (Some a) (p.at (length gs - 1 - k)) (get_or gs k d) (item k d (omega (arith, m.1)) (omega (arith, m.1)))
+      (gave_some size grain g f places (Some a) (p.at (length gs - 1 - k)) (get_or gs k d) (item k d (omega (arith, m.1)) (omega (arith, m.1)))
       (subst (λ j. IsSomeAnd (p.at j) (λ x. Called g f (x, tt) (Some a) f)) back all.0))
-      (λ j e l h. gave_some None (p.at (length gs - 1 - j)) (get_or gs j e) (item j e h (omega (arith, m.1))) (all.1 (length gs - 1 - j) (omega (arith, m.1)))))
+      (λ j e l h. gave_some size grain g f places None (p.at (length gs - 1 - j)) (get_or gs j e) (item j e h (omega (arith, m.1))) (all.1 (length gs - 1 - j) (omega (arith, m.1)))))
