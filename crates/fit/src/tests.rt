@@ -23,44 +23,57 @@ fn outside<R: FitRule>(
     ask(rule, gaps, size, grain).map_err(|fault| fault.number())
 }
 
+// Three gaps, of which the middle one is the narrowest.
+const THREE: [Stretch; 3] = [
+    Stretch { start: 0, end: 10 },
+    Stretch { start: 20, end: 26 },
+    Stretch {
+        start: 40,
+        end: 100,
+    },
+];
+
+// A size, and the answers of first and of best fit to it among the three gaps.
+const SIZES: [(u32, Option<(u32, u32)>, Option<(u32, u32)>); 3] = [
+    (5, Some((0, 5)), Some((20, 1))),
+    (60, Some((40, 0)), Some((40, 0))),
+    (61, None, None),
+];
+
 #[test]
 fn takes_the_lowest_or_the_tightest(rt: HostRuntime) {
-    let three = [
-        Stretch { start: 0, end: 10 },
-        Stretch { start: 20, end: 26 },
-        Stretch {
-            start: 40,
-            end: 100,
-        },
-    ];
-    let off_grain = [
+    for (size, first, best) in SIZES {
+        assert_eq!(rt; answer(&FirstFit, &THREE, size, 1), Ok(first));
+        assert_eq!(rt; answer(&BestFit, &THREE, size, 1), Ok(best));
+    }
+}
+
+#[test]
+fn measures_from_the_grain(rt: HostRuntime) {
+    let gaps = [
         Stretch { start: 1, end: 16 },
         Stretch { start: 32, end: 44 },
     ];
-    let wide = [
+    assert_eq!(rt; answer(&BestFit, &gaps, 8, 8), Ok(Some((32, 4))));
+}
+
+#[test]
+fn takes_the_lowest_of_equals(rt: HostRuntime) {
+    let gaps = [
         Stretch { start: 0, end: 10 },
         Stretch { start: 20, end: 30 },
     ];
+    assert_eq!(rt; answer(&BestFit, &gaps, 5, 1), Ok(Some((0, 5))));
+}
+
+#[test]
+fn answers_questions_from_outside(rt: HostRuntime) {
+    for (size, first, best) in SIZES {
+        assert_eq!(rt; outside(&FirstFit, &THREE, size, 1), Ok(first));
+        assert_eq!(rt; outside(&BestFit, &THREE, size, 1), Ok(best));
+    }
     let narrow = [Stretch { start: 0, end: 6 }, Stretch { start: 10, end: 16 }];
-    let lowest = [(5, Some((0, 5))), (60, Some((40, 0))), (61, None)];
-    for (size, expected) in lowest {
-        assert_eq!(rt; answer(&FirstFit, &three, size, 1), Ok(expected));
-        assert_eq!(rt; outside(&FirstFit, &three, size, 1), Ok(expected));
-    }
-    let tightest = [
-        (three.as_slice(), 5, 1, Some((20, 1))),
-        (three.as_slice(), 60, 1, Some((40, 0))),
-        (three.as_slice(), 61, 1, None),
-        // measured from the grain
-        (off_grain.as_slice(), 8, 8, Some((32, 4))),
-        // the lowest of equals
-        (wide.as_slice(), 5, 1, Some((0, 5))),
-        (narrow.as_slice(), 5, 1, Some((0, 1))),
-    ];
-    for (gaps, size, grain, expected) in tightest {
-        assert_eq!(rt; answer(&BestFit, gaps, size, grain), Ok(expected));
-        assert_eq!(rt; outside(&BestFit, gaps, size, grain), Ok(expected));
-    }
+    assert_eq!(rt; outside(&BestFit, &narrow, 5, 1), Ok(Some((0, 1))));
 }
 
 #[test]
