@@ -1,5 +1,4 @@
 // The fabrics of the sheet.
-// kept: a law takes a `u32` for any number, so each `fits` says what numbers the type has.
 ghost use Rattle.std.specs.Prelude.{◌≡◌, ◌^◌, ◌<◌, ◌≤◌, min};
 
 // The most cores that a fabric of the sheet has.
@@ -11,6 +10,7 @@ pub const MOST_CORES: u32 = 8;
 pub struct SharedBank {
     pub cores: u32,
     pub capacity: u32,
+    // kept: in a law a u32 is any number, so each type says that its capacities fit in 32 bits
     ghost fits: { capacity < 2 ^ 32 },
 }
 

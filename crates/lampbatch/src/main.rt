@@ -21,7 +21,7 @@ fn next_sheet(input: &[u8]) -> Option<(&[u8], &[u8])>
 
 // Prints what one sheet gives.
 fn print_answer(rt: &HostRuntime, plan: &mut Plan, sheet: &[u8], out: &mut [u8]) -> io::Result<()> {
-    // kept: the memory that the plan is lent
+    // kept: a plan takes no memory of its own; its caller lends room for 256 candidates
     let mut memory = [Candidate::default(); 256];
     match plan.answer(sheet, &mut memory, out) {
         Ok(end) => rt.stdout().write_all(&out[0..end])?,

@@ -22,7 +22,7 @@ fn read_sheet(rt: &HostRuntime) -> io::Result<Vec<u8>> {
 fn main(rt: HostRuntime) -> anyhow::Result<()> {
     let text = read_sheet(&rt)?;
     let mut plan = Plan::new(rt.alloc())?;
-    // kept: the memory that the plan is lent
+    // kept: a plan takes no memory of its own; its caller lends room for 256 candidates
     let mut memory = [Candidate::default(); 256];
     let mut out = vec![in rt.alloc(); 0; MOST_MAP]?;
     match plan.answer(text.as_slice(), &mut memory, out.as_mut_slice()) {

@@ -14,7 +14,6 @@ pub struct Grain {
 // A bank to place in.
 #[derive(Clone, Copy, Debug, PartialEq, Eq)]
 pub struct Space {
-    pub bank: u32,
     pub capacity: u32,
     pub grain: Grain,
 }

@@ -49,6 +49,7 @@ impl Items {
         let at = self
             .list
             .partition_point(|other| other.on.start <= item.on.start);
+        // there is room
         let _ = self.list.insert(at, item);
     }
 

@@ -16,8 +16,9 @@ use rules::memory::Stretch;
 pub(crate) struct Placer<'a, W: ObjectSet, R: FitRule> {
     pub(crate) world: &'a W,
     pub(crate) rule: &'a R,
+    pub(crate) bank: u32,
     pub(crate) space: Space,
-    ghost numbered: { space.bank < 16 },
+    ghost numbered: { bank < 16 },
 }
 
 impl<W: ObjectSet, R: FitRule> Placer<'_, W, R> {
@@ -42,7 +43,7 @@ impl<W: ObjectSet, R: FitRule> Placer<'_, W, R> {
         };
         let (start, _) = self.rule.fit(question).ok_or(LayoutFault::NoGap {
             object: x,
-            bank: self.space.bank,
+            bank: self.bank,
         })?;
         let end = start + size;
         Ok(Item {

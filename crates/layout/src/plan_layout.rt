@@ -93,7 +93,7 @@ impl Layout {
     {
         let item = placer.place(x, self.items.as_slice())?;
         self.items.insert(item);
-        self.spots[x as usize].places[placer.space.bank as usize] = item.on.start;
+        self.spots[x as usize].places[placer.bank as usize] = item.on.start;
         Ok(())
     }
 
@@ -108,10 +108,9 @@ impl Layout {
         ensures spots { vec_len self.new.spots ≡ vec_len self.old.spots }
         ensures banks { vec_len self.new.banks ≤ vec_len self.old.banks + 1 }
     {
-        let bank = placer.space.bank;
-        let mut queue = waiting_for(placer.world, self.spots.as_slice(), bank, memory)?;
+        let mut queue = waiting_for(placer.world, self.spots.as_slice(), placer.bank, memory)?;
         self.items.clear();
-        // kept: a queue is emptied by `pop`, which leaves its order to the heap
+        // kept: each turn takes what the heap serves next; a queue is no iterator
         while let Some(next) = queue.pop() {
             self.take_turn(placer, next.object)?;
         }
@@ -137,11 +136,16 @@ impl Layout {
         // kept: a fabric's banks are numbers and no slice
         for bank in 0..fabric.banks() {
             let space = Space {
-                bank,
                 capacity: fabric.capacity(bank),
                 grain,
             };
-            self.place_next(&Placer { world, rule, space }, memory)?;
+            let placer = Placer {
+                world,
+                rule,
+                bank,
+                space,
+            };
+            self.place_next(&placer, memory)?;
         }
         Ok(())
     }

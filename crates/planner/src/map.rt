@@ -30,7 +30,7 @@ pub(crate) fn put_map(map: &mut MapText, layout: &Layout) -> fmt::Result {
     }
     // kept: a layout is asked by the numbers that are printed, of object and bank
     for x in 0..layout.len() {
-        // kept: as above
+        // kept: a bank is asked for by its number
         for bank in 0..banks.len() as u32 {
             if let Some(place) = layout.place(x, bank) {
                 put_line(map, "O", x, bank, place)?;

@@ -81,7 +81,7 @@ impl Plan {
     }
 
     // Writes the map into the caller's memory, and answers its length; a map that does not fit is not written.
-    // kept: as in `answer`.
+    // kept: the caller lends the memory.
     pub fn write_map(&self, out: &mut [u8]) -> Result<usize, JobFault>
         ensures within { IfOk result (λ end. end ≤ length out.new) }
         ensures refused { OnErr result (out.new ≡ out.old) }

@@ -34,7 +34,7 @@ where
     requires { A.IsAlwaysCallable answer }
 {
     let mut plan = Plan::new(heap)?;
-    // kept: the memory that the plan is lent
+    // kept: a plan takes no memory of its own; its caller lends room for 256 candidates
     let mut memory = [Candidate::default(); 256];
     let mut out = vec![in heap; 0; MOST_MAP]?;
     match answer(&mut plan, &mut memory, out.as_mut_slice()) {
