@@ -72,6 +72,8 @@ impl Exclusions {
     pub fn excludes(&self, x: u32, y: u32) -> bool
         ensures { result ≡ row_bit self.now.rows.items x y }
     {
-        (x as usize) < self.rows.len() && self.rows[x as usize].holds(y as usize)
+        self.rows
+            .get(x as usize)
+            .is_some_and(|row| row.holds(y as usize))
     }
 }

@@ -20,7 +20,7 @@ use rules::sheet::{Entry, Fifo, Link, Sequence};
 fn size_in_range(size: u32) -> bool
     ensures { result ≡ size_in_range size }
 {
-    1 <= size && size <= MOST_BYTES
+    (1..=MOST_BYTES).contains(&size)
 }
 
 // The object of a FIFO, which is delayed if it has initial tokens.
@@ -126,6 +126,7 @@ impl ReadSheet {
         }
     }
 
+    // Takes a link, or refuses it and changes nothing.
     fn take_link(&mut self, link: Link) -> Result<(), Refusal>
         requires { vec_len self.old.links.list < 10922 }
         ensures { Took (draft_of self.old) (NextLink link) (draft_of self.new) result }

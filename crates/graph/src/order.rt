@@ -31,7 +31,7 @@ impl Order {
     pub fn before(&self, a: u32, b: u32) -> bool
         ensures { result ≡ before self.now.rows a b }
     {
-        (a as usize) < MOST_ACTORS && has(self.rows[a as usize], b)
+        self.rows.get(a as usize).is_some_and(|row| has(*row, b))
     }
 
     // Whether actor x is actor a or before it.

@@ -1,6 +1,6 @@
 // Questions to a sheet that was read.
 
-ghost use Rattle.std.specs.Prelude.{◌≡◌, true, IfSome};
+ghost use Rattle.std.specs.Prelude.{◌≡◌, true, ◌&&◌, nat_lt, IfSome};
 ghost use Rattle.graph.specs.Questions.{SaysBefore, SaysExcludes, SaysObject};
 ghost use Rattle.rules.specs.Fitting.{is_grain};
 
@@ -8,6 +8,13 @@ use crate::sheet_graph::Graph;
 use crate::stage::Stage;
 use rules::memory::Object;
 use rules::sheet::{Fit, Layer, Machine};
+
+// Whether both numbers are below a count.
+fn are_below(x: u32, y: u32, count: usize) -> bool
+    ensures { result ≡ (nat_lt x count && nat_lt y count) }
+{
+    (x as usize) < count && (y as usize) < count
+}
 
 impl Graph {
     // The machine and the fit rule of the sheet; none where no sheet was read.
@@ -34,18 +41,14 @@ impl Graph {
     pub fn is_before(&self, a: u32, b: u32) -> Option<bool>
         ensures { SaysBefore self.now.sheet a b result }
     {
-        let count = self.sheet.actors.len();
-        let known = (a as usize) < count && (b as usize) < count;
-        known.then(|| self.sheet.links.order.before(a, b))
+        are_below(a, b, self.sheet.actors.len()).then(|| self.sheet.links.order.before(a, b))
     }
 
     // Whether objects x and y exclude each other; none where the sheet has no such object.
     pub fn are_excluding(&self, x: u32, y: u32) -> Option<bool>
         ensures { SaysExcludes self.now.sheet x y result }
     {
-        let count = self.sheet.objects.len();
-        let known = (x as usize) < count && (y as usize) < count;
-        known.then(|| self.exclusions.excludes(x, y))
+        are_below(x, y, self.sheet.objects.len()).then(|| self.exclusions.excludes(x, y))
     }
 
     // Object x: its first and last actor, its size, and whether it has initial tokens.

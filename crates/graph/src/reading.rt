@@ -16,7 +16,7 @@ impl ReadSheet {
     {
         let mut rest = text;
         let mut at: u32 = 2;
-        // kept: each turn takes what the one before left, and the fault behind the last line its number.
+        // kept: each turn takes the lines that the one before left, and the number is needed behind the last.
         while !rest.is_empty() {
             let (entry, more) = next_entry(rest, at)?;
             self.take(entry)

@@ -13,7 +13,7 @@ pub struct Row {
     ghost long: { length words ≡ 4 },
 }
 
-// kept: Default is not derived over a ghost field.
+// kept: a Default over a ghost field is not derived.
 impl Default for Row {
     // The empty set.
     fn default() -> Row
@@ -28,7 +28,9 @@ impl Row {
     pub(crate) fn holds(&self, y: usize) -> bool
         ensures { result ≡ in_row self.now.words y }
     {
-        y < MOST_OBJECTS && has(self.words[y / 64], (y % 64) as u32)
+        self.words
+            .get(y / 64)
+            .is_some_and(|word| has(*word, (y % 64) as u32))
     }
 
     // The set with object y.

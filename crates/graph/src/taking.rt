@@ -24,7 +24,7 @@ fn machine_in_range(m: &Machine) -> bool
         Kind::Private => m.shared,
         Kind::Hybrid => 0,
     };
-    1 <= m.cores && m.cores <= 8 && may_be_grain(m.grain) && lacking == 0
+    (1..=8).contains(&m.cores) && may_be_grain(m.grain) && lacking == 0
 }
 
 // Whether two layers are of one sort.
@@ -49,7 +49,7 @@ impl ReadSheet {
     pub(crate) fn take_machine(&mut self, machine: Machine) -> Result<(), Refusal>
         ensures { TookBy (judge_machine self.old.stage machine) (draft_of self.old) (OnMachine machine) (draft_of self.new) result }
     {
-        // kept: one of three stages, and no Option.
+        // kept: a stage is one of three, so no Option says whether it is this one.
         let Stage::Blank = self.stage else {
             return Err(Refusal::OutOfTurn);
         };
@@ -63,7 +63,7 @@ impl ReadSheet {
     pub(crate) fn take_fit(&mut self, fit: Fit) -> Result<(), Refusal>
         ensures { TookBy (judge_fit self.old.stage) (draft_of self.old) (ByFit fit) (draft_of self.new) result }
     {
-        // kept: one of three stages, and no Option.
+        // kept: a stage is one of three, so no Option says whether it is this one.
         let Stage::Machined(machine) = self.stage else {
             return Err(Refusal::OutOfTurn);
         };
@@ -74,7 +74,7 @@ impl ReadSheet {
     pub(crate) fn take_layer(&mut self, layer: Layer) -> Result<(), Refusal>
         ensures { TookBy (judge_layer self.old.stage (vec_len self.old.actors) self.old.layers.items layer) (draft_of self.old) (WithLayer layer) (draft_of self.new) result }
     {
-        // kept: one of three stages, and no Option.
+        // kept: a stage is one of three, so no Option says whether it is this one.
         let Stage::Ruled(_, _) = self.stage else {
             return Err(Refusal::OutOfTurn);
         };
@@ -91,7 +91,7 @@ impl ReadSheet {
     pub(crate) fn take_actor(&mut self, actor: Actor) -> Result<(), Refusal>
         ensures { TookBy (judge_actor self.old.stage (vec_len self.old.actors) (vec_len self.old.links.list) actor) (draft_of self.old) (NextActor actor) (draft_of self.new) result }
     {
-        // kept: one of three stages, and no Option.
+        // kept: a stage is one of three, so no Option says whether it is this one.
         let Stage::Ruled(machine, _) = self.stage else {
             return Err(Refusal::OutOfTurn);
         };
