@@ -1,13 +1,10 @@
 -- A lean listing runs through and has one peak; the test of a live object is exact.
-use Rattle.std.proofs.Common.{◌≡◌, ℕ, ◌<◌, ◌≤◌, Bool, true, not, ◌&&◌, ◌||◌, ◌≢◌, ◌⊎◌, ◌↔◌, List, [], ◌∷◌, ◌++◌, refl, ap, subst, inl, inr, arith}
-use Rattle.std.proofs.lemmas.Bool.{and_parts, and_from, or_cases, or_left, or_right}
+use Rattle.std.proofs.Common.{◌≡◌, ℕ, ◌<◌, ◌≤◌, ◌⊎◌, List, [], ◌∷◌, ◌++◌, refl, ap, subst, inl, inr, arith}
 use Rattle.rules.specs.Sheets.{Sheet, actor_count}
-use Rattle.rules.specs.Objects.{first, last, always_live}
-use Rattle.rules.specs.Runs.{State, Phase, waiting, running, finished, phase, Started, Finished, Call, start, finish, after, Leads, stay, call, Grants, no_call, fresh}
-use Rattle.rules.specs.Lean.{LeanFrom, one_by_one, is_started, is_finished, live_bytes, Moment, Peak}
-use Rattle.rules.specs.LeanLaws.{LeanListingsRun, PeakExistsOnce, LiveTestExact}
+use Rattle.rules.specs.Runs.{State, Finished, Call, start, finish, after, Leads, stay, call, Grants, no_call, fresh}
+use Rattle.rules.specs.Lean.{LeanFrom, one_by_one, live_bytes, Moment, Peak}
+use Rattle.rules.specs.LeanLaws.{LeanListingsRun, PeakExistsOnce}
 use Rattle.rules.proofs.Deciding.{Decided, below}
-use Rattle.rules.proofs.Phases.{running_not_waiting, finished_not_waiting, finished_not_running}
 use Rattle.rules.proofs.Granting.{Fired, fresh_fired, fired_more, fires_one}
 use Rattle.rules.proofs.Answered.{every_call_is_answered}
 
@@ -147,40 +144,3 @@ pub peak_exists_once : PeakExistsOnce
 peak_exists_once s some [] lean = absurd (lean 0 some)
 peak_exists_once s some (a ∷ rest) lean =
     let r = some_peak s a rest in record { peak = r.0; is_peak = r.1; only = λ other h. same_peak s (a ∷ rest) other r.0 h r.1 }
-
--- the test of a started actor is exact
-pub started_test_exact : (p : Phase) → (is_started p ≡ true) ↔ (p ≢ waiting)
-started_test_exact waiting = (λ e. let z : ◌≡◌ {A = ℕ} 0 1 = cc in absurd (omega arith), λ h. absurd (h refl))
-started_test_exact running = (λ e. running_not_waiting refl, λ h. refl)
-started_test_exact finished = (λ e. finished_not_waiting refl, λ h. refl)
-
--- so is that of an actor that is not finished
-pub unfinished_test_exact : (p : Phase) → (not (is_finished p) ≡ true) ↔ (p ≡ finished → ⊥)
-unfinished_test_exact waiting = (λ e f. finished_not_waiting f refl, λ h. refl)
-unfinished_test_exact running = (λ e f. finished_not_running f refl, λ h. refl)
-unfinished_test_exact finished = (λ e. let z : ◌≡◌ {A = ℕ} 0 1 = cc in absurd (omega arith), λ h. absurd (h refl))
-
--- and that of a live object
-pub live_test_exact : LiveTestExact
-live_test_exact s st x known =
-    (λ e. record { known = known; lives = to (or_cases (always_live s x) (on && open_still) e) }, λ l. back l.lives)
-  where
-    on : Bool
-    on = is_started (phase st (first s x))
-
-    open_still : Bool
-    open_still = not (is_finished (phase st (last s x)))
-
-    began : (on ≡ true) ↔ Started st (first s x)
-    began = started_test_exact (phase st (first s x))
-
-    lasts : (open_still ≡ true) ↔ (Finished st (last s x) → ⊥)
-    lasts = unfinished_test_exact (phase st (last s x))
-
-    to : (always_live s x ≡ true) ⊎ ((on && open_still) ≡ true) → (always_live s x ≡ true) ⊎ (Started st (first s x) × (Finished st (last s x) → ⊥))
-    to (inl e) = inl e
-    to (inr e) = let p = and_parts on open_still e in inr (began.0 p.0, lasts.0 p.1)
-
-    back : (always_live s x ≡ true) ⊎ (Started st (first s x) × (Finished st (last s x) → ⊥)) → (always_live s x || (on && open_still)) ≡ true
-    back (inl e) = or_left (always_live s x) (on && open_still) e
-    back (inr l) = or_right (always_live s x) (on && open_still) (and_from on open_still (began.1 l.0) (lasts.1 l.1))
