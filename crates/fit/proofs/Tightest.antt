@@ -1,6 +1,6 @@
 -- Best fit finds the first of the gaps with the fewest bytes that hold the size.
 use Rattle.std.proofs.Common.{◌≡◌, ℕ, ◌+◌, ◌<◌, Bool, true, false, cond, ◌&&◌, ltb, leb, List, [], ◌∷◌, map, filter, Some, None, Option, Bor, nat_cmp, refl, sym, ap, ◌∙◌, subst, arith}
-use Rattle.std.specs.Option.{option_map, MatchOption, is_some}
+use Rattle.std.specs.Option.{option_map, is_some}
 use Rattle.std.specs.List.{FoldsTo, fold, reduce}
 use Rattle.std.specs.declared.cmp.Ordering.{Ordering}
 use Rattle.std.specs.declared.cmp.Ordering.TheVariants.{Less, Equal, Greater}
@@ -96,12 +96,8 @@ module _ (size grain : ℕ) where
   best_is_least [] = refl
   best_is_least (g ∷ gs) = starts g gs (best_is_least gs) (leb (place_in g grain + size) g.end)
 
-  takes : (o : Option (Bor Stretch)) (r : Option (ℕ × ℕ)) (P : Bor Stretch → Type 0) → MatchOption o (r ≡ None) P → ((x : Bor Stretch) → P x → r ≡ offer x.now size grain) →
-      r ≡ taken size grain (option_map (λ y. y.now) o)
-  takes None r P m places = m
-  takes (Some x) r P m places = places x m
-
-  -- the answer that takes the least of the gaps that hold the size is that of best fit
-  pub takes_best : (gs : List Stretch) (o : Option (Bor Stretch)) (r : Option (ℕ × ℕ)) (P : Bor Stretch → Type 0) → option_map (λ y. y.now) o ≡ reduce (lesser width) (filter holds gs) →
-      MatchOption o (r ≡ None) P → ((x : Bor Stretch) → P x → r ≡ offer x.now size grain) → r ≡ best_of gs size grain
-  takes_best gs o r P least m places = takes o r P m places ∙ ap (taken size grain) (least ∙ sym (best_is_least gs))
+  -- what the least of the gaps that hold the size offers is the answer of best fit
+  pub takes_best : (gs : List Stretch) (o p : Option (Bor Stretch)) → o ≡ p → option_map (λ y. y.now) o ≡ reduce (lesser width) (filter holds gs) →
+      taken size grain (option_map (λ y. y.now) p) ≡ best_of gs size grain
+  takes_best gs o p is least =
+      ap (λ q. taken size grain (option_map (λ y. y.now) q)) (sym is) ∙ ap (taken size grain) (least ∙ sym (best_is_least gs))

@@ -8,6 +8,7 @@ use crate::rule::FitRule;
 use rules::memory::Stretch;
 
 // The rule's answer to a proper question; any other question is refused.
+// kept: the three are what a caller has before there is a Question
 pub fn ask<R: FitRule>(
     rule: &R,
     gaps: &[Stretch],

@@ -3,7 +3,6 @@ ghost use Rattle.rules.specs.Choosing.{best_of};
 ghost use Rattle.rules.specs.declared.sheet.Fit.TheVariants.{Best};
 ghost use Rattle.fit.specs.Lawful.{by_fit_lawful};
 
-use crate::place::place_in;
 use crate::question::Question;
 use crate::rule::FitRule;
 
@@ -17,10 +16,11 @@ impl FitRule for BestFit {
     ghost lawful = { λ r. by_fit_lawful Best };
 
     fn fit(&self, q: Question<'_>) -> Option<(u32, u32)> {
-        q.gaps
+        let tightest = q
+            .gaps
             .iter()
-            .filter(|gap| place_in(**gap, q.size, q.grain).is_some())
-            .min_by_key(|gap| gap.end.saturating_sub(gap.start))
-            .and_then(|gap| place_in(*gap, q.size, q.grain))
+            .filter(|gap| q.place_in(**gap).is_some())
+            .min_by_key(|gap| gap.end.saturating_sub(gap.start))?;
+        q.place_in(*tightest)
     }
 }

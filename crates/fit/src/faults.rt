@@ -3,7 +3,7 @@ ghost use Rattle.std.specs.Prelude.{◌≡◌};
 ghost use Rattle.fit.specs.Numbers.{number_of};
 
 // Why a fit rule refuses a question: a number off its range, or more gaps than a rule is asked about.
-// Each is the number of its refusal.
+// The discriminant of each is the number of its refusal.
 #[derive(Clone, Copy, Debug, PartialEq, Eq)]
 pub enum AskFault {
     OffRange = 5,

@@ -3,7 +3,6 @@ ghost use Rattle.rules.specs.Choosing.{first_of};
 ghost use Rattle.rules.specs.declared.sheet.Fit.TheVariants.{First};
 ghost use Rattle.fit.specs.Lawful.{by_fit_lawful};
 
-use crate::place::place_in;
 use crate::question::Question;
 use crate::rule::FitRule;
 
@@ -17,8 +16,6 @@ impl FitRule for FirstFit {
     ghost lawful = { λ r. by_fit_lawful First };
 
     fn fit(&self, q: Question<'_>) -> Option<(u32, u32)> {
-        q.gaps
-            .iter()
-            .find_map(|gap| place_in(*gap, q.size, q.grain))
+        q.gaps.iter().find_map(|gap| q.place_in(*gap))
     }
 }

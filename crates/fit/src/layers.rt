@@ -1,13 +1,13 @@
 // Layers: fit rules over any fit rule.
-// kept: two structs, since callers write their fields `line` and `limit`, and a rule for every layer would overlap the other rules
 ghost use Rattle.rules.specs.Fitting.{ends_below, is_snug, low, snug};
 ghost use Rattle.fit.specs.Lawful.{low_lawful, snug_lawful};
 
-use crate::place::place_in;
 use crate::preference::{Preference, ask_first};
 use crate::question::Question;
 use crate::rule::FitRule;
 use rules::memory::Stretch;
+
+// kept: two structs, since callers write their fields, and one impl of FitRule for every Preference would overlap those of the other rules
 
 // Asks the rule below about the gaps that end at or below the line, then about all.
 #[derive(Clone, Copy, Debug, PartialEq, Eq)]
@@ -45,7 +45,7 @@ impl<R: FitRule> Preference for Snug<R> {
     ghost preferred = { λ s. is_snug s.limit };
 
     fn prefers(&self, gap: Stretch, q: Question<'_>) -> bool {
-        place_in(gap, q.size, q.grain).is_some_and(|(_, left)| left <= self.limit)
+        q.place_in(gap).is_some_and(|(_, left)| left <= self.limit)
     }
 }
 

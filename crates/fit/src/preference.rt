@@ -26,6 +26,7 @@ pub fn ask_first<P: Preference, R: FitRule>(
     ensures { result ≡ asks_first (P.Preference.preferred preference.now) (R.FitRule.answers rule.now) q.entry.gaps.now q.entry.size q.entry.grain }
 {
     let mut kept = ArrayVec::<Stretch, MOST_GAPS>::new();
+    // kept: to collect from a filter answers a Result for want of room, which there is
     for gap in q.gaps {
         if preference.prefers(*gap, q) {
             kept.push(*gap);
@@ -36,7 +37,7 @@ pub fn ask_first<P: Preference, R: FitRule>(
         size: q.size,
         grain: q.grain,
     };
-    // kept: `or_else` would need the rule's answer spelled in a clause of its closure
+    // kept: tried with or_else, whose closure calls through a bound and tells nothing of the result
     match rule.fit(preferred) {
         None => rule.fit(q),
         found => found,

@@ -3,6 +3,7 @@ ghost use Rattle.std.specs.Prelude.{◌≡◌, ◌<◌, ◌≤◌, true, length}
 ghost use Rattle.rules.specs.Fitting.{ascend_from, is_grain};
 
 use crate::faults::AskFault;
+use crate::place::place_in;
 use crate::range::is_in_range;
 use rules::memory::Stretch;
 
@@ -29,6 +30,7 @@ pub struct Question<'a> {
 impl<'a> Question<'a> {
     ghost use Rattle.std.specs.Prelude.{IfOk};
     ghost use Rattle.std.specs.Result.{result_err};
+    ghost use Rattle.rules.specs.Choosing.{offer};
     ghost use Rattle.fit.specs.Asking.{refusal};
 
     // The question of these gaps, this size and this grain, or why it is refused.
@@ -43,5 +45,12 @@ impl<'a> Question<'a> {
             return Err(AskFault::TooMany);
         }
         Ok(Question { gaps, size, grain })
+    }
+
+    // The answer that takes this gap, if the gap holds the object.
+    pub fn place_in(&self, gap: Stretch) -> Option<(u32, u32)>
+        ensures { result ≡ offer gap self.now.size self.now.grain }
+    {
+        place_in(gap, self.size, self.grain)
     }
 }

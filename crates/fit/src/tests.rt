@@ -14,6 +14,7 @@ fn answer<R: FitRule>(
 }
 
 // The answer to a question from outside, or the number of its refusal.
+// kept: what is tested is the refusal's number
 fn outside<R: FitRule>(
     rule: &R,
     gaps: &[Stretch],

@@ -2,7 +2,7 @@
 ghost use Rattle.own.specs.Lasting.{IsLastFit, last_of};
 ghost use Rattle.own.specs.Highest.{last_fit_is_a_fit_rule};
 
-use fit::{FitRule, Question, place_in};
+use fit::{FitRule, Question};
 
 // Takes the highest gap that holds the object.
 #[derive(Clone, Copy, Debug, PartialEq, Eq)]
@@ -14,10 +14,7 @@ impl FitRule for LastFit {
     ghost lawful = { λ r. last_fit_is_a_fit_rule };
 
     fn fit(&self, q: Question<'_>) -> Option<(u32, u32)> {
-        q.gaps
-            .iter()
-            .rev()
-            .find_map(|gap| place_in(*gap, q.size, q.grain))
+        q.gaps.iter().rev().find_map(|gap| q.place_in(*gap))
     }
 }
 
