@@ -38,6 +38,7 @@ impl Row {
         ensures { (z : ℕ) → in_row result.words z ≡ (in_row self.now.words z || (nat_lt y 256 && y == z)) }
     {
         let mut words = self.words;
+        // kept: tried get_mut: a match on what a slice lends says nothing of the slice behind it.
         if y < MOST_OBJECTS {
             words[y / 64] = with(words[y / 64], (y % 64) as u32);
         }
