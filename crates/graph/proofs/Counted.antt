@@ -50,10 +50,16 @@ links_drafted (Ruled m f) layers actors links none = refl
 links_held : (s : ReadSheet) → vec_items s.links.list ≡ links_of (draft_of s)
 links_held s = links_drafted s.stage (vec_items s.layers) (vec_items s.actors) (vec_items s.links.list) (λ e. sym s.links.list.ok.0 ∙ s.peopled (s.headed e).1)
 
-actors_drafted : (stage : Stage) (layers : List Layer) (actors : List Actor) (links : List Link) → length actors ≤ 64 → length (actors_of (draft_from stage layers actors links)) ≤ 64
-actors_drafted Blank layers actors links few = omega arith
-actors_drafted (Machined m) layers actors links few = omega arith
-actors_drafted (Ruled m f) layers actors links few = few
+-- and so are the actors
+actors_drafted : (stage : Stage) (layers : List Layer) (actors : List Actor) (links : List Link) → (is_ruled stage ≡ false → length actors ≡ 0) → actors ≡ actors_of (draft_from stage layers actors links)
+actors_drafted Blank layers actors links none = nil_from_length actors (none refl)
+actors_drafted (Machined m) layers actors links none = nil_from_length actors (none refl)
+actors_drafted (Ruled m f) layers actors links none = refl
+
+actor_count_held : (s : ReadSheet) → vec_len s.actors ≡ length (actors_of (draft_of s))
+actor_count_held s =
+    s.actors.ok.0
+    ∙ ap (λ (xs : List Actor). length xs) (actors_drafted s.stage (vec_items s.layers) (vec_items s.actors) (vec_items s.links.list) (λ e. sym s.actors.ok.0 ∙ (s.headed e).1))
 
 link_count_held : (s : ReadSheet) → vec_len s.links.list ≡ length (links_of (draft_of s))
 link_count_held s = s.links.list.ok.0 ∙ ap (λ (ks : List Link). length ks) (links_held s)
@@ -78,6 +84,14 @@ few_before s k free is =
     let count : s.links.fifos ≡ fifo_count (links_of (draft_of s)) = s.links.counted ∙ ap fifo_count (links_held s) in
     ⊎_elim (λ l. l) (λ l. absurd (free 7 (too_many_fifos k is (omega arith)))) (cases_lt s.links.fifos 192)
 
+-- joins actors that are there
+pub ends_known : (s : ReadSheet) (k : Link) → Free (draft_of s) (NextLink k) → (from k < vec_len s.actors) × (to k < vec_len s.actors)
+ends_known s k free =
+    let count = actor_count_held s in (
+      ⊎_elim (λ l. l) (λ l. absurd (free 6 (unknown_from k (omega arith)))) (cases_lt (from k) (vec_len s.actors)),
+      ⊎_elim (λ l. l) (λ l. absurd (free 6 (unknown_to k (omega arith)))) (cases_lt (to k) (vec_len s.actors)),
+    )
+
 -- leaves at most 192 FIFOs
 pub few_after : (s : ReadSheet) (k : Link) → Free (draft_of s) (NextLink k) → s.links.fifos + fifo_count (k ∷ []) ≤ 192
 few_after s (Plain f) free = let few = few_before s (Plain f) free (plain f) in omega arith
@@ -88,15 +102,11 @@ few_after s (Ordered q) free = let few = s.links.few in omega arith
 pub joinable : (s : ReadSheet) (k : Link) → Free (draft_of s) (NextLink k) → Orders k → may_join s.links.order.rows (from k) (to k) ≡ true
 joinable s k free orders = true_from_ne_false (may_join s.links.order.rows (from k) (to k)) clash
   where
-    -- the draft has at most the actors that are held
-    long : length (actors_of (draft_of s)) ≤ 64
-    long = actors_drafted s.stage (vec_items s.layers) (vec_items s.actors) (vec_items s.links.list) (subst (λ n. n ≤ 64) s.actors.ok.0 s.few)
-
     one : from k < 64
-    one = let known = λ (h : length (actors_of (draft_of s)) ≤ from k). free 6 (unknown_from k h) in omega (arith, long)
+    one = let known = ends_known s k free in omega (arith, s.few)
 
     other : to k < 64
-    other = let known = λ (h : length (actors_of (draft_of s)) ≤ to k). free 6 (unknown_to k h) in omega (arith, long)
+    other = let known = ends_known s k free in omega (arith, s.few)
 
     clash : may_join s.links.order.rows (from k) (to k) ≡ false → ⊥
     clash never =

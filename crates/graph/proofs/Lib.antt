@@ -6,10 +6,16 @@ pub mod Sets
 pub mod Kept
 pub mod Exclusive
 pub mod Ranged
+pub mod Seated
+pub mod Known
 pub mod Judged
 pub mod JudgedLinks
 pub mod Took
 pub mod Counted
 pub mod Endings
 pub mod Texts
+pub mod Held
 pub mod Told
+pub mod Looked
+pub mod Heads
+pub mod Sheeted

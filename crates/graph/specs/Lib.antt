@@ -4,8 +4,10 @@ pub mod Ranges
 pub mod Rows
 pub mod Orders
 pub mod Excluding
+pub mod Seats
 pub mod RowBits
 pub mod Judging
 pub mod Taking
 pub mod Readings
+pub mod Held
 pub mod Questions

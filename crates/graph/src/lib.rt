@@ -1,10 +1,12 @@
 // A sheet's actors, objects, order and exclusions, and the reader that builds them.
 #![tactic(auto)]
 
+pub mod counts;
 pub mod exclusions;
 pub mod faults;
 pub mod graph_calls;
 pub mod joining;
+pub mod lean_view;
 pub mod links;
 pub mod object_set;
 pub mod objects;

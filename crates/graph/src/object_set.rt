@@ -1,7 +1,10 @@
 // What placing asks of the objects of a plan.
 
-ghost use Rattle.std.specs.Prelude.{◌≡◌, ℕ, ◌<◌, ◌≤◌, vec_len};
+ghost use Rattle.std.specs.Prelude.{◌≡◌, ℕ, ◌<◌, ◌≤◌, Bool, vec_len};
+ghost use Rattle.graph.specs.Excluding.{excluding as excluding-by};
+ghost use Rattle.graph.specs.Seats.{touching_in};
 ghost use Rattle.graph.specs.Sizes.{size_at};
+ghost use Rattle.rules.specs.Sheets.{core_in};
 
 use crate::sheet_graph::Graph;
 use words::pair;
@@ -13,6 +16,12 @@ pub trait ObjectSet {
     // the size of each
     ghost sizes: { Self → ℕ → ℕ };
 
+    // whether two exclude each other
+    ghost excluding: { Self → ℕ → ℕ → Bool };
+
+    // the set of cores that touch each
+    ghost touched: { Self → ℕ → ℕ };
+
     fn len(&self) -> u32
         ensures { result ≡ count self.now };
 
@@ -21,10 +30,12 @@ pub trait ObjectSet {
         ensures { result ≡ sizes self.now x };
 
     // Whether x and y exclude each other.
-    fn excludes(&self, x: u32, y: u32) -> bool;
+    fn excludes(&self, x: u32, y: u32) -> bool
+        ensures { result ≡ excluding self.now x y };
 
     // The cores that touch x: those of its producer and consumer.
-    fn touching(&self, x: u32) -> u64;
+    fn touching(&self, x: u32) -> u64
+        ensures { result ≡ touched self.now x };
 
     ghost few: { (s : Self) → count s ≤ 256 };
 
@@ -37,6 +48,10 @@ impl ObjectSet for Graph {
     ghost count = { λ g. vec_len g.sheet.objects.list };
 
     ghost sizes = { λ g. size_at g.sheet.objects.list.items };
+
+    ghost excluding = { λ g. excluding-by g.sheet.links.order.rows g.sheet.objects.list.items };
+
+    ghost touched = { λ g. touching_in g.sheet.actors.items g.sheet.objects.list.items };
 
     ghost few = { λ g. g.sheet.objects.few };
 
@@ -66,7 +81,9 @@ impl ObjectSet for Graph {
 
 impl Graph {
     // The core of an actor; 0 where there is no such actor.
-    fn core_of(&self, actor: u32) -> u32 {
+    fn core_of(&self, actor: u32) -> u32
+        ensures { result ≡ core_in self.now.sheet.actors.items actor }
+    {
         let actors = self.sheet.actors.as_slice();
         actors.get(actor as usize).map_or(0, |known| known.core)
     }

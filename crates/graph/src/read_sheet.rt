@@ -2,7 +2,8 @@
 
 ghost use Rattle.std.specs.Prelude.{◌≡◌, ◌+◌, ◌≤◌, true, false, [], IfOk, vec_len, vec_capacity};
 ghost use Rattle.graph.specs.Sizes.{objects_in};
-ghost use Rattle.graph.specs.Stages.{grain_of, is_ruled};
+ghost use Rattle.graph.specs.Seats.{all_known, all_on};
+ghost use Rattle.graph.specs.Stages.{grain_of, is_ruled, stage_cores};
 ghost use Rattle.graph.specs.declared.stage.Stage.TheVariants.{Blank};
 ghost use Rattle.rules.specs.Fitting.{is_grain, may_layer};
 
@@ -31,6 +32,9 @@ pub struct ReadSheet {
     ghost headed: { (is_ruled stage ≡ false → (vec_len layers ≡ 0) × (vec_len actors ≡ 0)) },
     ghost peopled: { (vec_len actors ≡ 0 → vec_len links.list ≡ 0) },
     ghost listed: { objects.list.items ≡ objects_in actors.items links.list.items },
+    ghost cored: { stage_cores stage ≤ 8 },
+    ghost seated: { all_on 8 actors.items ≡ true },
+    ghost known: { all_known (vec_len actors) links.list.items ≡ true },
 }
 
 impl ReadSheet {

@@ -117,6 +117,7 @@ impl ReadSheet {
         requires first { vec_len self.old.links.list ≡ 0 }
         requires room { vec_len self.old.actors < 64 }
         requires small { actor.work ≤ 16777216 }
+        requires seated { actor.core < 8 }
         ensures actors { self.new.actors.items ≡ self.old.actors.items ++ actor ∷ [] }
         ensures stage { self.new.stage ≡ self.old.stage }
         ensures layers { self.new.layers ≡ self.old.layers }

@@ -5,7 +5,7 @@
 ghost use Rattle.std.specs.Prelude.{◌<◌, length, IfSome};
 
 use layout::turns::Candidate;
-use planner::map::MOST_MAP;
+use map::writing::MOST_MAP;
 use planner::plan::Plan;
 use std::io;
 use std::io::{Read, Write};

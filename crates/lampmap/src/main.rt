@@ -3,7 +3,7 @@
 
 use anyhow::anyhow;
 use layout::turns::Candidate;
-use planner::map::MOST_MAP;
+use map::writing::MOST_MAP;
 use planner::plan::Plan;
 use std::io;
 use std::io::{Read, Write};

@@ -1,9 +1,11 @@
 // The gaps that items leave.
 
-ghost use Rattle.std.specs.Prelude.{◌≡◌, ◌<◌, ◌≤◌, true, []};
-ghost use Rattle.std.specs.Iterator.{IsFinite, size};
+ghost use Rattle.std.specs.Prelude.{◌≡◌, ◌<◌, ◌≤◌, true, List, []};
+ghost use Rattle.std.specs.Iterator.{AlwaysYields, IsFinite, size};
+ghost use Rattle.layout.specs.Items.{spans};
+ghost use Rattle.layout.specs.Starts.{ByStart};
 ghost use Rattle.rules.specs.Fitting.{ascend_from};
-ghost use Rattle.rules.specs.Stretches.{Every};
+ghost use Rattle.rules.specs.Stretches.{Blocked, Every, Gaps};
 
 use crate::items::Item;
 use arrayvec::ArrayVec;
@@ -21,6 +23,7 @@ pub(crate) fn find_gaps<'a, I: Iterator<Item = &'a Item>>(
     requires ends { IsFinite (I.remaining items) }
     requires few { size (I.remaining items) < 256 }
     requires empty { gaps.old.items ≡ [] }
+    ensures gaps { (xs : List Item) → AlwaysYields I.next_gives (λ x. x.now) items xs → ByStart (spans xs) → Gaps capacity (Blocked (spans xs)) gaps.new.items }
     ensures ascending { ascend_from 0 gaps.new.items ≡ true }
     ensures within { Every (λ g. g.end ≤ capacity) gaps.new.items }
 {

@@ -1,2 +1,4 @@
-pub mod Output
 pub mod Reports
+pub mod Plans
+pub mod Replies
+pub mod Printed

@@ -1,15 +1,20 @@
 // How a call is refused, and what a refusal reports.
 
-ghost use Rattle.std.specs.Prelude.{◌≡◌, None, Some};
-ghost use Rattle.planner.specs.Reports.{at_line, fault_of, fault_text, field_text, refusal_number, report_graph, report_of, report_text};
-ghost use Rattle.planner.specs.declared.faults.JobFault.TheVariants.{Graph};
+ghost use Rattle.std.specs.Prelude.{◌≡◌, [], ◌∷◌, ◌++◌, None, Some};
+ghost use Rattle.planner.specs.Reports.{as_tabled, at_line, fault_of, fault_of_lean, fault_text, field_text, report_graph, report_of, report_run, report_text};
+ghost use Rattle.graph.specs.Taking.{refusal_number};
+ghost use Rattle.planner.specs.declared.faults.JobFault.TheVariants.{Asked, Graph, Run};
+ghost use Rattle.rules.specs.Refusals.{fault_line};
 
+use fit::AskFault;
 use graph::faults::{GraphFault, Refusal};
 use layout::faults::LayoutFault;
+use lean::faults::LeanFault;
+use run::faults::RunFault;
 use std::fmt;
 use text::faults::TextFault;
 
-// A refused reading, a question to a plan that is not placed, or a placing that fails.
+// Why a call on a plan is refused.
 #[derive(Clone, Copy, Debug, PartialEq, Eq)]
 pub enum JobFault {
     Graph(GraphFault),
@@ -19,10 +24,20 @@ pub enum JobFault {
     Unplaced,
     // an actor's core is none of the fabric's
     LacksCore,
+    // a question about places names an object or a bank that there is not
+    NoSuchPlace,
     // the object and the bank in which no gap held it
     NoGap(u32, u32),
+    // a question to a fit rule is not a proper one
+    Asked(AskFault),
     // the caller's memory is too short
     ShortMemory,
+    // a run or a lean order of a plan that holds no sheet
+    NoSheet,
+    // a call of a run was refused
+    Run(RunFault),
+    // a question names an actor or an object that there is not
+    Unknown,
 }
 
 impl From<GraphFault> for JobFault {
@@ -41,6 +56,33 @@ impl From<LayoutFault> for JobFault {
             LayoutFault::NoGap { object, bank } => JobFault::NoGap(object, bank),
             LayoutFault::ShortMemory => JobFault::ShortMemory,
         }
+    }
+}
+
+impl From<LeanFault> for JobFault {
+    ghost from_gives = { λ f r. r ≡ fault_of_lean f };
+
+    fn from(f: LeanFault) -> JobFault {
+        match f {
+            LeanFault::Empty => JobFault::NoSheet,
+            LeanFault::ShortMemory => JobFault::ShortMemory,
+        }
+    }
+}
+
+impl From<AskFault> for JobFault {
+    ghost from_gives = { λ f r. r ≡ Asked f };
+
+    fn from(f: AskFault) -> JobFault {
+        JobFault::Asked(f)
+    }
+}
+
+impl From<RunFault> for JobFault {
+    ghost from_gives = { λ f r. r ≡ Run f };
+
+    fn from(f: RunFault) -> JobFault {
+        JobFault::Run(f)
     }
 }
 
@@ -121,6 +163,18 @@ impl From<GraphFault> for Report {
     }
 }
 
+// A refused call of a run.
+impl From<RunFault> for Report {
+    ghost from_gives = { λ f r. r ≡ report_run f };
+
+    fn from(f: RunFault) -> Report {
+        match f {
+            RunFault::ShortMemory => Report::of(16, 5),
+            _ => Report::of(f.number(), 4),
+        }
+    }
+}
+
 impl From<JobFault> for Report {
     ghost from_gives = { λ f r. r ≡ report_of f };
 
@@ -128,7 +182,11 @@ impl From<JobFault> for Report {
         match f {
             JobFault::Graph(f) => f.into(),
             JobFault::Empty | JobFault::Unplaced => Report::of(4, 3),
-            JobFault::LacksCore => Report::of(6, 3),
+            JobFault::LacksCore | JobFault::NoSuchPlace => Report::of(6, 3),
+            JobFault::Asked(f) => Report::of(f.number(), 3),
+            JobFault::NoSheet => Report::of(4, 4),
+            JobFault::Run(f) => f.into(),
+            JobFault::Unknown => Report::of(6, 4),
             JobFault::NoGap(object, bank) => Report {
                 object: Some(object),
                 bank: Some(bank),
@@ -179,3 +237,8 @@ impl fmt::Display for Report {
         )
     }
 }
+
+// What is shown of a report, with a line end behind it, is the fault line of the table.
+pub fn reports_are_shown_as_tabled()
+    ensures { (r : Report) → fault_line (as_tabled r) ≡ fault_text r ++ 10 ∷ [] }
+{}

@@ -2,6 +2,7 @@
 #![tactic(auto)]
 
 pub mod faults;
-pub mod map;
-mod output;
+pub mod leaning;
 pub mod plan;
+pub mod questions;
+pub mod running;

@@ -1,11 +1,11 @@
 -- Placing turn by turn: what stands when some objects have had their turn, and what one turn more does.
 use Rattle.std.proofs.Common.{◌≡◌, ℕ, ◌+◌, ◌⊎◌, ◌↔◌, List, [], ◌∷◌, ◌++◌, Some, None, Option, sym, refl, ap, ◌∙◌, subst, inl, inr, ⊎_elim, arith}
-use Rattle.std.specs.Option.{option_map}
 use Rattle.std.proofs.lemmas.Bool.{cases_eq}
 use Rattle.rules.specs.declared.memory.Stretch.{Stretch}
 use Rattle.rules.specs.Lists.{◌∈◌, Every, Any}
 use Rattle.rules.specs.Stretches.{Covers, Gaps, Blocked}
 use Rattle.rules.specs.Fitting.{Rule}
+use Rattle.rules.specs.Standings.{InTurn, Standing, Answered}
 use Rattle.rules.specs.Placing.{Bank, Places, Earlier, Taken, ByTheRule, Placing, Full, LacksSpace}
 use Rattle.rules.proofs.Members.{any_at, all_at}
 use Rattle.rules.proofs.Joined.{some_one, any_cases, any_left, any_right}
@@ -15,25 +15,20 @@ use Rattle.rules.proofs.Rounds.{absent?}
 use Rattle.rules.proofs.Agreeing.{seen_alike, by_the_rule_alike}
 
 module _ (bank : Bank) where
-  -- each has its turn before all that follow
-  abbrev pub InTurn : List ℕ → Type 0
-  InTurn [] = Unit {0}
-  InTurn (x ∷ xs) = Every (λ y. Earlier bank x y) xs × InTurn xs
-
   -- those listed before x are earlier
-  pub earlier_in_front : (front : List ℕ) (x : ℕ) (back : List ℕ) → InTurn (front ++ x ∷ back) → (y : ℕ) → y ∈ front → Earlier bank y x
+  pub earlier_in_front : (front : List ℕ) (x : ℕ) (back : List ℕ) → InTurn bank (front ++ x ∷ back) → (y : ℕ) → y ∈ front → Earlier bank y x
   earlier_in_front [] x back t y i = absurd i
   earlier_in_front (z ∷ front) x back t y (inl e) =
       subst (λ w. Earlier bank w x) (sym e) (all_at (λ w. Earlier bank z w) x (front ++ x ∷ back) (any_right (λ w. x ≡ w) front (x ∷ back) (inl refl)) t.0)
   earlier_in_front (z ∷ front) x back t y (inr i) = earlier_in_front front x back t.1 y i
 
   -- those listed behind x are later
-  later_behind : (front : List ℕ) (x : ℕ) (back : List ℕ) → InTurn (front ++ x ∷ back) → (y : ℕ) → y ∈ back → Earlier bank x y
+  later_behind : (front : List ℕ) (x : ℕ) (back : List ℕ) → InTurn bank (front ++ x ∷ back) → (y : ℕ) → y ∈ back → Earlier bank x y
   later_behind [] x back t y i = all_at (λ w. Earlier bank x w) y back i t.0
   later_behind (z ∷ front) x back t y i = later_behind front x back t.1 y i
 
   -- those of the list that are earlier than x are listed before it
-  pub front_has_the_earlier : (front : List ℕ) (x : ℕ) (back : List ℕ) → InTurn (front ++ x ∷ back) →
+  pub front_has_the_earlier : (front : List ℕ) (x : ℕ) (back : List ℕ) → InTurn bank (front ++ x ∷ back) →
       (y : ℕ) → y ∈ (front ++ x ∷ back) → Earlier bank y x → y ∈ front
   front_has_the_earlier front x back t y i e = by (any_cases (λ w. y ≡ w) front (x ∷ back) i)
     where
@@ -78,14 +73,8 @@ module _ (bank : Bank) where
             same_place o s p e f = cc
 
   module _ (rule : Rule) where
-    -- the objects done have their places by the rule, and nothing else has one
-    pub record Standing (done : List ℕ) (places : Places) : Type 0 where
-      pub placed : (y : ℕ) → y ∈ done → (p : ℕ) × (places y ≡ Some p)
-      pub by_the_rule : (y : ℕ) → y ∈ done → ByTheRule bank rule places y
-      pub nothing_else : (y p : ℕ) → places y ≡ Some p → y ∈ done
-
     -- before the first turn
-    pub standing_none : Standing [] (λ y. None)
+    pub standing_none : Standing bank rule [] (λ y. None)
     standing_none =
         record {
           placed = λ y i. absurd i;
@@ -93,20 +82,14 @@ module _ (bank : Bank) where
           nothing_else = λ y p e. let z : ◌≡◌ {A = ℕ} 0 1 = cc in absurd (omega arith);
         }
 
-    -- the rule's answer for x, beside the places so far
-    pub record Answered (places : Places) (x : ℕ) (answer : Option ℕ) : Type 0 where
-      pub gaps : List Stretch
-      pub are_gaps : Gaps bank.capacity (Taken bank places x) gaps
-      pub says : answer ≡ option_map (λ a. a.0) (rule gaps (bank.size x) bank.grain)
-
-    module _ (done : List ℕ) (places : Places) (standing : Standing done places) where
+    module _ (done : List ℕ) (places : Places) (standing : Standing bank rule done places) where
       -- what is not done has no place
       pub no_place_yet : (x : ℕ) → (x ∈ done → ⊥) → places x ≡ None
       no_place_yet x n = ⊎_elim (λ none. none) (λ p. absurd (n (standing.nothing_else x p.0 p.1))) (absent? (places x))
 
       -- one turn more, that places x
-      pub standing_more : (x p : ℕ) (next : Places) → ((y : ℕ) → y ∈ done → Earlier bank y x) → Answered places x (Some p) →
-          next x ≡ Some p → ((y : ℕ) → (y ≡ x → ⊥) → next y ≡ places y) → Standing (done ++ x ∷ []) next
+      pub standing_more : (x p : ℕ) (next : Places) → ((y : ℕ) → y ∈ done → Earlier bank y x) → Answered bank rule places x (Some p) →
+          next x ≡ Some p → ((y : ℕ) → (y ≡ x → ⊥) → next y ≡ places y) → Standing bank rule (done ++ x ∷ []) next
       standing_more x p next early answered here others =
           record {
             placed = λ y i. ⊎_elim (λ j. kept_place y j) (⊎_elim (λ e. (p, ap next e ∙ here)) absurd) (cases y i);
@@ -144,7 +127,7 @@ module _ (bank : Bank) where
 
       -- a turn that finds no gap
       pub standing_lacks : (x : ℕ) → x ∈ bank.objects → (x ∈ done → ⊥) → ((y : ℕ) → y ∈ bank.objects → Earlier bank y x → y ∈ done) →
-          Answered places x None → LacksSpace bank rule places x
+          Answered bank rule places x None → LacksSpace bank rule places x
       standing_lacks x m not_done all answered =
           let none = no_place_yet x not_done in
           record {

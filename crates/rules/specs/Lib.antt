@@ -11,6 +11,7 @@ pub mod Fabrics
 pub mod Drafts
 pub mod Reading
 pub mod Placing
+pub mod Standings
 pub mod Layouts
 pub mod Runs
 pub mod Lives

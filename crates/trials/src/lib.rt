@@ -4,6 +4,8 @@
 #[cfg(test)]
 mod faults;
 #[cfg(test)]
+mod lean_orders;
+#[cfg(test)]
 mod maps;
 #[cfg(test)]
 mod owned;

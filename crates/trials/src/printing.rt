@@ -3,8 +3,8 @@
 use fabric::Fabric;
 use fit::FitRule;
 use layout::turns::Candidate;
+use map::writing::MOST_MAP;
 use planner::faults::JobFault;
-use planner::map::MOST_MAP;
 use planner::plan::Plan;
 use std::alloc::{AllocError, Global};
 
@@ -21,8 +21,7 @@ pub(crate) fn placed<R: FitRule, F: Fabric>(
     fabric: &F,
 ) -> Result<String, AllocError> {
     printed_by(heap, |plan, memory, out| {
-        plan.read(text)?;
-        plan.place_with(rule, fabric, memory)?;
+        plan.plan_with(text, rule, fabric, memory)?;
         plan.write_map(out)
     })
 }

@@ -1,8 +1,9 @@
-use Rattle.std.proofs.Common.{◌++◌, vec_items, sym, ap, ◌∙◌}
+use Rattle.std.proofs.Common.{◌++◌, vec_items, vec_len, sym, ap, ◌∙◌}
 use Rattle.std.proofs.lemmas.List.{append-nil}
 use Rattle.graph.specs.Taking.{draft_of}
 use Rattle.graph.proofs.Listed.{link_pushed}
-use Rattle.graph.proofs.Counted.{peopled, few_after, joinable, object_sized}
+use Rattle.graph.proofs.Known.{link_more}
+use Rattle.graph.proofs.Counted.{peopled, ends_known, few_after, joinable, object_sized}
 use Rattle.graph.proofs.read_sheet.ReadSheet.take_link.Goals as goal
 
 pub push-requires-clause-few : goal.push-requires-clause-few
@@ -34,3 +35,15 @@ invariant_of-self-in_default-clause-listed c =
     let s = c.args.self.now in
     link_pushed (vec_items s.objects.list) (vec_items s.objects.list) (vec_items s.actors) (vec_items s.links.list) (vec_items c.push.new.self.list) c.args.link s.listed
     (sym (append-nil (vec_items s.objects.list)) ∙ ap (λ os. vec_items s.objects.list ++ os) (sym c.in_default.ensures)) c.push.ensures.items
+
+pub invariant_of-self-clause-known : goal.invariant_of-self-clause-known
+invariant_of-self-clause-known c =
+    let s = c.args.self.now in
+    let ends = ends_known s c.args.link c.in_ok-judge.ensures in
+    link_more (vec_len s.actors) (vec_items s.links.list) (vec_items c.push.new.self.list) c.args.link s.known ends.0 ends.1 c.push.ensures.items
+
+pub invariant_of-self-in_default-clause-known : goal.invariant_of-self-in_default-clause-known
+invariant_of-self-in_default-clause-known c =
+    let s = c.args.self.now in
+    let ends = ends_known s c.args.link c.in_ok-judge.ensures in
+    link_more (vec_len s.actors) (vec_items s.links.list) (vec_items c.push.new.self.list) c.args.link s.known ends.0 ends.1 c.push.ensures.items

@@ -1,0 +1,5 @@
+pub mod Faults
+pub mod Leaning
+pub mod Nets
+pub mod Totals
+pub mod Waiting

@@ -1,0 +1,3 @@
+mod Rows
+mod Lengths
+pub mod OnSheets

@@ -1,0 +1,6 @@
+// The printed map of a layout.
+#![tactic(auto)]
+
+mod lines;
+mod output;
+pub mod writing;

@@ -1,0 +1,8 @@
+mod OfGraph
+mod Placings
+mod Joined
+mod Owned
+mod Replying
+mod Printing
+mod FaultLines
+mod Mapped
