@@ -8,6 +8,8 @@ mod lean_orders;
 #[cfg(test)]
 mod maps;
 #[cfg(test)]
+mod net_changes;
+#[cfg(test)]
 mod owned;
 #[cfg(test)]
 mod printing;
