@@ -13,3 +13,5 @@ mod net_changes;
 mod owned;
 #[cfg(test)]
 mod printing;
+#[cfg(test)]
+mod runs;
