@@ -6,3 +6,4 @@ mod Replying
 mod Printing
 mod FaultLines
 mod Mapped
+mod Runs

@@ -6,4 +6,5 @@ pub mod leaning;
 pub mod plan;
 pub mod plan_run;
 pub mod questions;
+pub mod run_questions;
 pub mod running;
