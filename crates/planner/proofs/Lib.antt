@@ -7,3 +7,4 @@ mod Printing
 mod FaultLines
 mod Mapped
 mod Runs
+mod Banked

@@ -2,7 +2,7 @@
 
 ghost use Rattle.std.specs.Prelude.{◌≡◌};
 ghost use Rattle.planner.specs.Replies.{AsksRun, sheet_of};
-ghost use Rattle.planner.specs.Running.{CalledOn};
+ghost use Rattle.planner.specs.Running.{CalledOn, ReplaysOn};
 ghost use Rattle.rules.specs.Runs.{finish as finishing, fresh, order as ordering, round as rounding, start as starting};
 ghost use Rattle.run.specs.Called.{InState};
 ghost use Rattle.run.specs.Replayed.{as_call};
@@ -11,6 +11,8 @@ use crate::faults::JobFault;
 use crate::plan::Plan;
 use crate::plan_run::PlanRun;
 use run::call::Call;
+use run::faults::RunFault;
+use run::replaying::replay;
 use run::sheet_run::Run;
 
 impl Plan {
@@ -31,6 +33,18 @@ impl Plan {
             plan: self,
             run: Run::new(&self.graph),
         }
+    }
+
+    // Makes the calls on a fresh run, granted or refused, and writes the answer to each. Refused where there is no room for them.
+    pub fn replay(
+        &self,
+        calls: &[Call],
+        answers: &mut [Result<(), RunFault>],
+    ) -> Result<PlanRun<'_>, JobFault>
+        ensures { ReplaysOn self.now calls.now answers.old answers.new result }
+    {
+        let run = replay(&self.graph, calls, answers)?;
+        Ok(PlanRun { plan: self, run })
     }
 }
 
