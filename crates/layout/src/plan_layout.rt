@@ -63,6 +63,7 @@ impl Layout {
     pub fn clear(&mut self)
         ensures spots { vec_len self.new.spots ≡ 0 }
         ensures banks { vec_len self.new.banks ≡ 0 }
+        ensures items { vec_len self.new.items.list ≡ 0 }
         ensures placed { self.new.placed ≡ false }
     {
         self.placed = false;

@@ -1,10 +1,12 @@
 // Actors that can be listed next, the one with the smallest net change first.
 
 ghost use Rattle.std.specs.Prelude.{◌≡◌, ◌*◌, ◌^◌, ◌≤◌, [], ◌∷◌};
-ghost use Rattle.lean.specs.Nets.{net_of};
+ghost use Rattle.graph.specs.Held.{sheet_held};
+ghost use Rattle.lean.specs.Nets.{IsNet, net_of};
 ghost use Rattle.rules.specs.Drafts.{fifo_count};
 ghost use Rattle.rules.specs.Lean.{consumed, produced};
 
+use graph::sheet_graph::Graph;
 use rules::sheet::Link;
 
 // An actor that can be listed, and its net change. Smaller net changes go first, equal ones by lower number.
@@ -48,4 +50,11 @@ pub(crate) fn net_change(links: &[Link], a: u32) -> i64
         consumed += loss(link, a);
     }
     produced as i64 - consumed as i64
+}
+
+// The net change of actor a of the sheet that is held; none where it has no such actor.
+pub fn net_change_of(graph: &Graph, a: u32) -> Option<i64>
+    ensures { IsNet (sheet_held graph.now.sheet) a result }
+{
+    (a < graph.actor_count()).then(|| net_change(graph.links(), a))
 }

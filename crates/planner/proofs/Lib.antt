@@ -6,3 +6,5 @@ mod Replying
 mod Printing
 mod FaultLines
 mod Mapped
+mod Runs
+mod Banked

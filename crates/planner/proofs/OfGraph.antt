@@ -28,7 +28,7 @@ seen_of g =
     (touching_in (vec_items g.sheet.actors) (vec_items g.sheet.objects.list))
 
 -- the size of an object by its number
-size_at_object : (os : List Object) (x : ℕ) → x < length os → size_at os x ≡ (object_at os x).size
+pub size_at_object : (os : List Object) (x : ℕ) → x < length os → size_at os x ≡ (object_at os x).size
 size_at_object os x l = get_or-map (λ (o : Object). o.size) os x (record { producer = 0; consumer = 0; size = 0; delayed = false }) 0 l
 
 module _ (g : Graph) (s : Sheet) (holds : Holds g.sheet s) where

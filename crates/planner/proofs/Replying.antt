@@ -1,13 +1,15 @@
 -- Answers to questions.
-use Rattle.std.proofs.Common.{◌≡◌, ℕ, ◌<◌, Bool, true, false, List, length, get_or, Some, None, Option, Ok, Result, sym, ap, ◌∙◌, subst}
+use Rattle.std.proofs.Common.{◌≡◌, ℕ, ◌<◌, Bool, true, false, List, length, get_or, ℤ, pos, ◌-ℤ◌, Some, None, Option, Ok, Result, sym, ap, ◌∙◌, subst}
 use Rattle.std.proofs.lemmas.List.{get_or_default}
 use Rattle.std.specs.Option.{ok_or}
 use Rattle.rules.specs.declared.memory.Object.{Object}
-use Rattle.rules.specs.Sheets.{Sheet}
+use Rattle.rules.specs.Lean.{produced, consumed}
+use Rattle.rules.specs.Sheets.{Sheet, actor_count}
 use Rattle.rules.specs.Objects.{object, object_count, touching}
 use Rattle.graph.specs.Questions.{IsObject, SaysWhether, Touch}
 use Rattle.layout.specs.declared.plan_layout.BankUse.{BankUse}
 use Rattle.layout.specs.Worlds.{use_at}
+use Rattle.lean.specs.Nets.{IsNet, net_of}
 use Rattle.planner.specs.declared.faults.JobFault.{JobFault}
 use Rattle.planner.specs.declared.faults.JobFault.TheVariants.{Unknown}
 use Rattle.planner.specs.declared.plan.Plan.{Plan}
@@ -30,6 +32,12 @@ pub touch_told : (s : Sheet) (x : ℕ) (o : Option ℕ) (r : Result ℕ JobFault
     Replies (x < object_count s) (λ set. set ≡ touching s x) r
 touch_told s x None r says e = subst (Replies (x < object_count s) (λ set. set ≡ touching s x)) (sym e) (Replies.unknown says)
 touch_told s x (Some set) r says e = subst (Replies (x < object_count s) (λ set. set ≡ touching s x)) (sym e) (Replies.told says.0 says.1)
+
+-- the net change of an actor
+pub net_told : (s : Sheet) (a : ℕ) (o : Option ℤ) (r : Result ℤ JobFault) → IsNet s a o → r ≡ ok_or o Unknown →
+    Replies (a < actor_count s) (λ n. n ≡ pos (produced s.links a) -ℤ pos (consumed s.links a)) r
+net_told s a None r says e = subst (Replies (a < actor_count s) (λ n. n ≡ net_of s.links a)) (sym e) (Replies.unknown says)
+net_told s a (Some n) r says e = subst (Replies (a < actor_count s) (λ m. m ≡ net_of s.links a)) (sym e) (Replies.told says.0 says.1)
 
 -- what was found is the value asked for
 pub placed_told : {X : Type 0} (p : Plan) (Known : Type 0) (value found : X) → found ≡ value → p.layout.placed ≡ true → Known → RepliesPlaced p Known value (Ok found)

@@ -1,4 +1,5 @@
 pub mod Reports
 pub mod Plans
 pub mod Replies
+pub mod Running
 pub mod Printed

@@ -4,5 +4,7 @@
 pub mod faults;
 pub mod leaning;
 pub mod plan;
+pub mod plan_run;
 pub mod questions;
+pub mod run_questions;
 pub mod running;

@@ -6,3 +6,4 @@ pub mod Onward
 pub mod Calling
 pub mod Retold
 pub mod Overall
+pub mod Summed

@@ -4,6 +4,7 @@ use Rattle.rules.specs.Sheets.{Sheet, actor_count}
 use Rattle.rules.specs.Objects.{object_count}
 use Rattle.rules.specs.Runs as runs
 use Rattle.rules.specs.Lives.{Live}
+use Rattle.rules.specs.Lean.{live_bytes}
 use Rattle.graph.specs.Held.{sheet_held}
 use Rattle.graph.specs.Questions.{SaysWhether}
 use Rattle.run.specs.declared.faults.RunFault.{RunFault}
@@ -47,3 +48,7 @@ SaysPhase r a p = (st : runs.State) → InState r st → IsPhase (sheet_of r) st
 -- whether object x is live; none exactly where there is no such object
 abbrev pub SaysLive : Run → ℕ → Option Bool → Type 0
 SaysLive r x b = (st : runs.State) → InState r st → SaysWhether (x < object_count (sheet_of r)) (Live (sheet_of r) st x) b
+
+-- the total size of the live objects
+abbrev pub SaysBytes : Run → ℕ → Type 0
+SaysBytes r n = (st : runs.State) → InState r st → n ≡ live_bytes (sheet_of r) st

@@ -4,7 +4,7 @@ ghost use Rattle.std.specs.Prelude.{◌≡◌};
 ghost use Rattle.rules.specs.Objects.{object_count};
 ghost use Rattle.rules.specs.Runs.{finished as is-over, running as is-on, waiting as is-idle};
 ghost use Rattle.rules.specs.Sheets.{actor_count};
-ghost use Rattle.run.specs.Called.{SaysLive, SaysPhase, sheet_of};
+ghost use Rattle.run.specs.Called.{SaysBytes, SaysLive, SaysPhase, sheet_of};
 ghost use Rattle.run.specs.Records.{as_phase, phase_in};
 ghost use Rattle.run.specs.Views.{Free, Late, Lives, Over, Tells};
 
@@ -45,6 +45,20 @@ impl Run<'_> {
     {
         let object = self.graph.object(x)?;
         Some(self.lives(object))
+    }
+
+    // The total size of the live objects.
+    pub fn live_bytes(&self) -> u64
+        ensures { SaysBytes self.now result }
+    {
+        // kept: a closure that captures a struct with a lifetime tells its caller nothing, so no `filter`.
+        let mut sum = 0;
+        for object in self.graph.objects() {
+            if self.lives(*object) {
+                sum += object.size as u64;
+            }
+        }
+        sum
     }
 
     // Whether an object with these actors is live: always, or from the start of its first to the finish of its last.

@@ -8,6 +8,10 @@ mod lean_orders;
 #[cfg(test)]
 mod maps;
 #[cfg(test)]
+mod net_changes;
+#[cfg(test)]
 mod owned;
 #[cfg(test)]
 mod printing;
+#[cfg(test)]
+mod runs;
