@@ -1,4 +1,4 @@
-//! The lean order and its peak (docs/RULES.md, 'Lean order', 'Peak').
+//! The lean order and its peak (docs/RULES.md, 'Lean order', 'Peak'), and how they are printed (docs/FORMAT.md, 'Lean order').
 
 use crate::objects::objects;
 use crate::run::{Call, Run};

@@ -1,4 +1,4 @@
-//! A placed sheet's run, answered call by call.
+//! A placed sheet's run, answered call by call (docs/FORMAT.md, 'Rehearsal').
 
 use crate::fault::Fault;
 use crate::objects::{objects, Object};
