@@ -398,6 +398,6 @@ mod tests {
             listed.sort_unstable();
             assert!(listed.into_iter().eq(0..sheet.actors.len()));
         }
-        assert!(ties >= 500 && negative >= 500 && large >= 2 && longest > 1 << 31, "{ties} {negative} {large} {longest}");
+        assert!(ties >= 500 && negative >= 500 && large >= 10 && longest > 1 << 31, "{ties} {negative} {large} {longest}");
     }
 }

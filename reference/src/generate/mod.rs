@@ -70,8 +70,9 @@ pub fn rehearsal(seed: u64, index: u64) -> (Vec<u8>, Vec<u8>) {
             text
         }
         5..=8 => join(&spell(&shapes::sheet_with(random, |sheet| place(sheet).is_err()))),
-        9..=11 => join(&spell(&shapes::extreme(random))),
-        12..=39 => join(&spell(&shapes::broad(random))),
+        9..=10 => join(&spell(&shapes::extreme(random))),
+        11..=13 => join(&spell(&shapes::heavy(random))),
+        14..=39 => join(&spell(&shapes::broad(random))),
         _ => join(&spell(&shapes::sheet_with(random, |sheet| place(sheet).is_ok()))),
     };
     let calls = match read(&text) {
@@ -206,8 +207,9 @@ mod tests {
         for _ in 0..300 {
             let sheet = shapes::sheet(random);
             assert_eq!(read(&join(&spell(&sheet))).unwrap(), sheet);
-            let sheet = shapes::extreme(random);
-            assert_eq!(read(&join(&spell(&sheet))).unwrap(), sheet);
+            for sheet in [shapes::extreme(random), shapes::broad(random), shapes::heavy(random)] {
+                assert_eq!(read(&join(&spell(&sheet))).unwrap(), sheet);
+            }
         }
     }
 

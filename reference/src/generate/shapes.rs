@@ -30,6 +30,29 @@ pub fn broad(random: &mut Random) -> Sheet {
     sheet
 }
 
+/// A few actors with bundles of the largest FIFOs between them: some net changes need more than 32 bits.
+pub fn heavy(random: &mut Random) -> Sheet {
+    let mut sheet = blank(random);
+    let count = random.from(3, 8) as usize;
+    sheet.actors = members(random, count, sheet.machine.cores);
+    while sheet.links.len() < MOST_FIFOS {
+        let (from, to) = two(random, count);
+        for _ in 0..random.pick(&[1, 2, 60, 140]) {
+            fifo(&mut sheet, from, to);
+        }
+    }
+    for link in &mut sheet.links {
+        if let Link::Fifo { size, .. } = link {
+            *size = MOST_SIZE - random.pick(&[0, 0, 0, 1]);
+        }
+    }
+    sequences(random, &mut sheet);
+    renumber(random, &mut sheet);
+    preferences(random, &mut sheet);
+    capacities(random, &mut sheet);
+    sheet
+}
+
 /// A machine and a fit.
 fn blank(random: &mut Random) -> Sheet {
     let cores = if random.percent(20) { random.pick(&[1, 8]) } else { random.from(1, 8) as u32 };
