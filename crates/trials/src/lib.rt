@@ -11,3 +11,5 @@ mod maps;
 mod owned;
 #[cfg(test)]
 mod printing;
+#[cfg(test)]
+mod runs;
