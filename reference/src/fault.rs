@@ -1,13 +1,14 @@
-//! Why a sheet is refused (docs/REFUSALS.md).
+//! Why a sheet or a call of a run is refused (docs/REFUSALS.md).
 
 use std::fmt;
 
-/// The parts of a sheet's handling that can refuse it.
+/// The parts of a sheet's handling that can refuse.
 #[derive(Clone, Copy, Debug, PartialEq, Eq)]
 pub enum Layer {
     Text = 1,
     Graph = 2,
     Placing = 3,
+    Run = 4,
 }
 
 /// A refusal: its number, its layer, and what else stands.
@@ -35,6 +36,20 @@ impl Fault {
     /// No gap of the bank holds the object.
     pub fn no_gap(object: usize, bank: usize) -> Fault {
         Fault { number: 11, layer: Layer::Placing, line: None, object: Some(object), bank: Some(bank) }
+    }
+
+    /// A call of a run is refused.
+    pub fn of_call(number: u8) -> Fault {
+        Fault { number, layer: Layer::Run, line: None, object: None, bank: None }
+    }
+}
+
+/// The refusal with this number, unless what it guards is kept.
+pub fn require(kept: bool, number: u8) -> Result<(), u8> {
+    if kept {
+        Ok(())
+    } else {
+        Err(number)
     }
 }
 

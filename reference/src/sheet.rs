@@ -1,6 +1,6 @@
 //! A sheet and its reading (docs/FORMAT.md, docs/REFUSALS.md).
 
-use crate::fault::Fault;
+use crate::fault::{require, Fault};
 use crate::order::leads;
 
 pub const HEADER: &[u8] = b"LGM 1";
@@ -134,7 +134,7 @@ pub fn read(text: &[u8]) -> Result<Sheet, Fault> {
 }
 
 /// A number as the format writes it.
-fn number(field: &[u8]) -> Option<u32> {
+pub fn number(field: &[u8]) -> Option<u32> {
     let digits = !field.is_empty() && field.iter().all(u8::is_ascii_digit);
     let leading_zero = field.len() > 1 && field[0] == b'0';
     if !digits || leading_zero || field.len() > 10 {
@@ -182,14 +182,6 @@ struct Draft {
     fifos: usize,
     /// For each actor, those that an `F` or `S` line puts right after it.
     next: Vec<Vec<usize>>,
-}
-
-fn require(kept: bool, number: u8) -> Result<(), u8> {
-    if kept {
-        Ok(())
-    } else {
-        Err(number)
-    }
 }
 
 impl Draft {

@@ -1,11 +1,13 @@
-//! Sheets to compare by: valid ones of many shapes, and damaged ones aimed at every refusal of a sheet.
+//! Sheets to compare by: valid ones of many shapes, and damaged ones aimed at every refusal of a sheet; and calls of their runs.
 
+mod calls;
 mod damage;
 mod random;
 mod shapes;
 mod sized;
 
-use crate::sheet::{spell, Sheet, MOST_ACTORS, MOST_BYTES, MOST_FIFOS};
+use crate::place::place;
+use crate::sheet::{read, spell, Sheet, MOST_ACTORS, MOST_BYTES, MOST_FIFOS};
 use damage::{can_be_damaged, Lines, DAMAGES};
 use random::Random;
 use sized::Size;
@@ -51,6 +53,32 @@ pub fn text(seed: u64, index: u64) -> Vec<u8> {
         67..=68 => join(&spell(&shapes::extreme(random))),
         _ => join(&spell(&shapes::sheet(random))),
     }
+}
+
+/// The sheet and the calls of the rehearsal with this index, of those that belong to a seed.
+pub fn rehearsal(seed: u64, index: u64) -> (Vec<u8>, Vec<u8>) {
+    let random = &mut Random::new(seed, index);
+    let text = match index.wrapping_mul(77) % 100 {
+        0..=3 => damaged(random, |random, sheet, lines| {
+            let damage = random.pick(&DAMAGES);
+            damage(random, sheet, lines);
+        }),
+        4 => {
+            let mut text = join(&spell(&shapes::sheet(random)));
+            let damage = random.pick(&[damage::header, damage::bytes]);
+            damage(random, &mut text);
+            text
+        }
+        5..=8 => join(&spell(&shapes::sheet_with(random, |sheet| place(sheet).is_err()))),
+        9..=11 => join(&spell(&shapes::extreme(random))),
+        12..=39 => join(&spell(&shapes::broad(random))),
+        _ => join(&spell(&shapes::sheet_with(random, |sheet| place(sheet).is_ok()))),
+    };
+    let calls = match read(&text) {
+        Ok(sheet) => calls::list(random, &sheet),
+        Err(_) => b"start 0\nround\n".to_vec(),
+    };
+    (text, calls)
 }
 
 /// The different texts of the sheets of a size, `small`, `medium` or `maximal`.
@@ -163,7 +191,6 @@ fn too_long(random: &mut Random) -> Vec<u8> {
 mod tests {
     use super::*;
     use crate::map::map;
-    use crate::sheet::read;
 
     #[test]
     fn the_same_text_for_the_same_question() {

@@ -6,8 +6,34 @@ use crate::sheet::{Actor, Fit, Kind, Link, Machine, Preference, Sheet, MOST_ACTO
 
 /// A valid sheet. Where its capacities are tight, it may lack space.
 pub fn sheet(random: &mut Random) -> Sheet {
+    let mut sheet = blank(random);
+    match random.from(0, 9) {
+        0..=3 => scattered(random, &mut sheet),
+        4..=5 => chain(random, &mut sheet),
+        6 => fork_and_join(random, &mut sheet),
+        7 => islands(random, &mut sheet),
+        _ => receiver(random, &mut sheet),
+    }
+    complete(random, &mut sheet);
+    sheet
+}
+
+/// A valid sheet with many ready actors at once, or with long chains, for the lean order.
+pub fn broad(random: &mut Random) -> Sheet {
+    let mut sheet = blank(random);
+    match random.from(0, 2) {
+        0 => lanes(random, &mut sheet),
+        1 => levels(random, &mut sheet),
+        _ => star(random, &mut sheet),
+    }
+    complete(random, &mut sheet);
+    sheet
+}
+
+/// A machine and a fit.
+fn blank(random: &mut Random) -> Sheet {
     let cores = if random.percent(20) { random.pick(&[1, 8]) } else { random.from(1, 8) as u32 };
-    let mut sheet = Sheet {
+    Sheet {
         machine: Machine {
             kind: random.pick(&[Kind::U, Kind::V, Kind::H]),
             cores,
@@ -19,21 +45,17 @@ pub fn sheet(random: &mut Random) -> Sheet {
         preferences: Vec::new(),
         actors: Vec::new(),
         links: Vec::new(),
-    };
-    match random.from(0, 9) {
-        0..=3 => scattered(random, &mut sheet),
-        4..=5 => chain(random, &mut sheet),
-        6 => fork_and_join(random, &mut sheet),
-        7 => islands(random, &mut sheet),
-        _ => receiver(random, &mut sheet),
     }
-    sequences(random, &mut sheet);
-    initial_tokens(random, &mut sheet);
-    sizes(random, &mut sheet);
-    renumber(random, &mut sheet);
-    preferences(random, &mut sheet);
-    capacities(random, &mut sheet);
-    sheet
+}
+
+/// All that a sheet with actors and FIFOs still wants.
+fn complete(random: &mut Random, sheet: &mut Sheet) {
+    sequences(random, sheet);
+    initial_tokens(random, sheet);
+    sizes(random, sheet);
+    renumber(random, sheet);
+    preferences(random, sheet);
+    capacities(random, sheet);
 }
 
 /// A valid sheet that keeps a condition which is not rare.
@@ -189,6 +211,57 @@ fn fork_and_join(random: &mut Random, sheet: &mut Sheet) {
         for worker in source + 1..=source + workers {
             fifo(sheet, source, worker);
             fifo(sheet, worker, source + workers + 1);
+        }
+    }
+}
+
+/// Chains side by side, of unequal lengths, some with a common source or sink.
+fn lanes(random: &mut Random, sheet: &mut Sheet) {
+    let lanes: Vec<u64> = (0..random.from(2, 8)).map(|_| random.from(1, 7)).collect();
+    let count = lanes.iter().sum::<u64>() as usize + 2;
+    let (source, sink) = (0, count - 1);
+    let (common_source, common_sink) = (random.percent(50), random.percent(50));
+    sheet.actors = members(random, count, sheet.machine.cores);
+    let mut first = 1;
+    for length in lanes {
+        let last = first + length as usize - 1;
+        for i in first..last {
+            fifo(sheet, i, i + 1);
+        }
+        if common_source {
+            fifo(sheet, source, first);
+        }
+        if common_sink {
+            fifo(sheet, last, sink);
+        }
+        first = last + 1;
+    }
+}
+
+/// Levels of actors, each fed by one to three of the level above.
+fn levels(random: &mut Random, sheet: &mut Sheet) {
+    let width = random.from(2, 16) as usize;
+    let depth = random.from(2, (MOST_ACTORS / width) as u64) as usize;
+    sheet.actors = members(random, width * depth, sheet.machine.cores);
+    for to in width..width * depth {
+        let above = (to / width - 1) * width;
+        for _ in 0..random.from(1, 3) {
+            fifo(sheet, above + random.below(width), to);
+        }
+    }
+}
+
+/// One actor feeds many, or many feed one, or both.
+fn star(random: &mut Random, sheet: &mut Sheet) {
+    let count = random.from(3, MOST_ACTORS as u64) as usize;
+    let manner = random.from(0, 2);
+    sheet.actors = members(random, count, sheet.machine.cores);
+    for i in 1..count - 1 {
+        if manner != 0 {
+            fifo(sheet, 0, i);
+        }
+        if manner != 1 {
+            fifo(sheet, i, count - 1);
         }
     }
 }
