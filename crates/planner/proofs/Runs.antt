@@ -1,10 +1,10 @@
 -- What a run answers is said of the plan's sheet.
-use Rattle.std.proofs.Common.{◌≡◌, ℕ, ◌<◌, ◌≤◌, Bool, true, false, Some, None, Option, Result, sym, ap, subst, ⊎_elim, arith}
+use Rattle.std.proofs.Common.{◌≡◌, ℕ, ◌<◌, Bool, true, false, Some, None, Option, Result, sym, ap, subst, ⊎_elim, arith}
 use Rattle.std.proofs.lemmas.Bool.{cases_lt}
 use Rattle.std.specs.Option.{ok_or}
 use mathlib.Core.HLevel.{⊥_prop}
 use mathlib.Core.Logic.{∥∥₁_elim}
-use Rattle.rules.specs.Sheets.{Sheet, actor_count}
+use Rattle.rules.specs.Sheets.{actor_count}
 use Rattle.rules.specs.Objects.{object_count}
 use Rattle.rules.specs.Runs as runs
 use Rattle.rules.specs.Lives.{Live}
@@ -16,7 +16,7 @@ use Rattle.run.specs.Called.{sheet_of as run_of, InState, SaysPhase, SaysLive}
 use Rattle.planner.specs.declared.faults.JobFault.{JobFault}
 use Rattle.planner.specs.declared.faults.JobFault.TheVariants.{Unknown}
 use Rattle.planner.specs.declared.plan_run.PlanRun.{PlanRun}
-use Rattle.planner.specs.Replies.{Replies, Whether, sheet_of}
+use Rattle.planner.specs.Replies.{Replies, sheet_of}
 use Rattle.planner.specs.Running.{InPhase, SaysIfLive}
 
 -- a run is in some state

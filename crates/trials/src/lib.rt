@@ -6,6 +6,8 @@ mod faults;
 #[cfg(test)]
 mod lean_orders;
 #[cfg(test)]
+mod live_bytes;
+#[cfg(test)]
 mod maps;
 #[cfg(test)]
 mod net_changes;

@@ -1,6 +1,5 @@
 // Runs of worked sheets, call by call.
 
-use layout::turns::Candidate;
 use planner::faults::JobFault;
 use planner::plan::Plan;
 use run::call::Call;
@@ -8,9 +7,9 @@ use run::faults::RunFault;
 use run::phase::Phase;
 use std::test::Fail;
 
-// Two cores with a bank of their own each and a shared one; the actors and FIFOs are those of sample A.
-const HYBRID_A: &str =
-    "LGM 1\nM H 2 64 64 1\nP F\nA 0 0\nA 0 0\nA 1 0\nA 1 4\nF 0 1 10\nF 1 2 6\nF 2 3 8\nF 0 2 5\n";
+// Sample A.
+const TEXT_A: &str =
+    "LGM 1\nM U 2 64 0 1\nP F\nA 0 0\nA 0 0\nA 1 0\nA 1 4\nF 0 1 10\nF 1 2 6\nF 2 3 8\nF 0 2 5\n";
 
 const TEXT_B: &str = "LGM 1\nM U 2 64 0 1\nP F\nA 0 4\nA 0 6\n";
 
@@ -63,29 +62,20 @@ fn late_orderings(rt: HostRuntime) -> Result<(), Fail> {
     Ok(())
 }
 
-// What is live in sample A while actor 1 runs, in all and in each bank.
+// Objects 1 and 2 of sample A are FIFOs of actor 1, and object 4 waits for actor 2.
 #[test]
-fn live_bytes_of_sample_a(rt: HostRuntime) -> Result<(), Fail> {
+fn live_while_actor_1_runs(rt: HostRuntime) -> Result<(), Fail> {
     let mut plan = Plan::new(rt.alloc())?;
-    let mut memory = [Candidate::default(); 5];
-    let _ = plan.read(HYBRID_A.as_bytes());
-    assert_eq!(rt; plan.run().live_bytes_in(0), Err(JobFault::Unknown));
-    assert_eq!(rt; plan.place(&mut memory), Ok(()));
+    let _ = plan.read(TEXT_A.as_bytes());
     let calls = [Call::Start(0), Call::Finish(0), Call::Start(1)];
     let mut answers = [Err(RunFault::Unknown); 3];
     match plan.replay(&calls, &mut answers) {
         Ok(run) => {
-            // objects 1 and 2 are FIFOs of actor 1, and object 4 waits for actor 2
             let live = [false, true, true, false, true];
             for (x, expected) in live.into_iter().enumerate() {
                 assert_eq!(rt; run.is_live(x as u32), Ok(expected), "{}", x);
             }
             assert_eq!(rt; run.is_live(5), Err(JobFault::Unknown));
-            assert_eq!(rt; run.live_bytes(), 21);
-            assert_eq!(rt; run.live_bytes_in(0), Ok(11));
-            assert_eq!(rt; run.live_bytes_in(1), Ok(10));
-            assert_eq!(rt; run.live_bytes_in(2), Ok(0));
-            assert_eq!(rt; run.live_bytes_in(3), Err(JobFault::Unknown));
         }
         Err(fault) => assert_eq!(rt; Err(fault), Ok(())),
     }

@@ -1,5 +1,4 @@
-use Rattle.std.proofs.Common.{◌≡◌, ◌<◌, true, false, ◌&&◌, List, length, is_some, sym, ap, ◌∙◌, arith}
-use Rattle.rules.specs.Lean.{is_live}
+use Rattle.std.proofs.Common.{◌≡◌, ◌<◌, List, length, sym, ap, ◌∙◌, arith}
 use Rattle.rules.specs.Lists.{numbers_from, total}
 use Rattle.rules.specs.Objects.{object_count, size}
 use Rattle.run.proofs.Summed.{total_more}
