@@ -11,8 +11,9 @@ use Rattle.planner.specs.declared.plan.Plan.{Plan}
 use Rattle.planner.specs.Plans.{HasRead, ReadsInto, reads, refuses, PlacesBy, PlacesOwn, PlansBy, PlansOwn}
 
 -- a refused text is a refused plan
-pub badly : (text : List ℕ) (m : Meaning) (rule : Rule) (memory : ℕ) (after : Plan) (f : JobFault) → ReadsInto text after (Err f) → PlansBy text m rule memory after (Err f)
-badly text m rule memory after f (refuses given none) = PlansBy.badly_read given none
+pub badly : (text : List ℕ) (m : Meaning) (rule : Rule) (memory : ℕ) (after : Plan) (f : JobFault) → ReadsInto text after (Err f) → after.layout.placed ≡ false →
+    PlansBy text m rule memory after (Err f)
+badly text m rule memory after f (refuses given none) unplaced = PlansBy.badly_read given none unplaced
 
 module _ (text : List ℕ) (m : Meaning) (rule : Rule) (memory : ℕ) (mid after : Plan) (s : Sheet) (held : HasRead mid s) (given : Gives text (accepted s)) (unplaced : mid.layout.placed ≡ false) where
   is_given : (t : Sheet) → HasRead mid t → Gives text (accepted t)
@@ -43,9 +44,10 @@ graph_stays m rule memory before after r (PlacesBy.no_gap t h room on lacks same
 graph_stays m rule memory before after r (PlacesBy.places t h room on placed same) = same
 
 -- a refused text is a refused plan, whatever the rule and the fabric
-pub badly_own : (text : List ℕ) (m : Meaning) (rule : Rule) (memory : ℕ) (after : Plan) (f : JobFault) → ReadsInto text after (Err f) → PlansOwn text memory after (Err f)
-badly_own text m rule memory after f (refuses given none) =
-    record { fabric = m; rule = rule; own = λ s held. absurd (none s held); outcome = PlansBy.badly_read given none }
+pub badly_own : (text : List ℕ) (m : Meaning) (rule : Rule) (memory : ℕ) (after : Plan) (f : JobFault) → ReadsInto text after (Err f) → after.layout.placed ≡ false →
+    PlansOwn text memory after (Err f)
+badly_own text m rule memory after f (refuses given none) unplaced =
+    record { fabric = m; rule = rule; own = λ s held. absurd (none s held); outcome = PlansBy.badly_read given none unplaced }
 
 -- what was read is placed by its own rule on its own fabric
 pub read_placed_own : (text : List ℕ) (memory : ℕ) (mid after : Plan) (r : Result Unit JobFault) → ReadsInto text mid (Ok tt) → mid.layout.placed ≡ false →

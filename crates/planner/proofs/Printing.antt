@@ -56,7 +56,7 @@ runs_on_its_own text s given = (valid_sheets_can_be_placed s ((accepted_texts_ar
 module _ (text : List ℕ) (memory : ℕ) (p : Plan) where
   refused_by : (m : Meaning) (rule : Rule) (f : JobFault) → 256 ≤ memory → ((s : Sheet) → HasRead p s → Own s m rule) → PlansBy text m rule memory p (Err f) →
       Prints text (fault_line (as_tabled (report_of f)))
-  refused_by m rule f enough own (PlansBy.badly_read {f = g} given none) = fault_prints text g given
+  refused_by m rule f enough own (PlansBy.badly_read {f = g} given none unplaced) = fault_prints text g given
   refused_by m rule f enough own (PlansBy.short_memory s given held short unplaced) =
       absurd (let few = few_objects p s held in omega (arith, few, short, enough))
   refused_by m rule f enough own (PlansBy.lacks_core s given held room lacks unplaced) =

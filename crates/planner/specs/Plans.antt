@@ -79,7 +79,7 @@ pub record PlacesOwn (memory : ℕ) (before after : Plan) (r : Result Unit JobFa
 -- a text is read and placed by a rule on a fabric: the whole promise holds of the sheet that it spells,
 -- or the text or the placing is refused for the reason that comes first
 pub data PlansBy (text : List ℕ) (m : Meaning) (rule : Rule) (memory : ℕ) (after : Plan) : Result Unit JobFault → Type 0 where
-  badly_read : {f : GraphFault} → Gives text (reported f) → HasNone after → PlansBy text m rule memory after (Err (Graph f))
+  badly_read : {f : GraphFault} → Gives text (reported f) → HasNone after → after.layout.placed ≡ false → PlansBy text m rule memory after (Err (Graph f))
   short_memory : (s : Sheet) → Gives text (accepted s) → HasRead after s → memory < object_count s → after.layout.placed ≡ false →
       PlansBy text m rule memory after (Err ShortMemory)
   lacks_core : (s : Sheet) → Gives text (accepted s) → HasRead after s → object_count s ≤ memory → (RunsOn s m → ⊥) →

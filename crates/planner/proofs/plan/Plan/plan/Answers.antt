@@ -9,7 +9,7 @@ pub returns-in_err-read : goal.returns-in_err-read
 returns-in_err-read c =
     let e = err_from_is_err_and c.from_residual.result c.from_residual.ensures.1 in
     rw (e.1, e.2)
-    (badly_own c.args.text.now (unified 0 0) first_of (length c.args.memory.now) c.read.new.self c.in_err-read.field-0.0 c.in_err-read.ensures.read)
+    (badly_own c.args.text.now (unified 0 0) first_of (length c.args.memory.now) c.read.new.self c.in_err-read.field-0.0 c.in_err-read.ensures.read c.in_err-read.ensures.unplaced)
 
 pub returns : goal.returns
 returns c =
