@@ -1,4 +1,3 @@
-pub mod Faults
 pub mod Leaning
 pub mod Nets
 pub mod Totals

@@ -1,8 +1,7 @@
 // Lean orders of worked sheets, and their peaks.
 
-use graph::sheet_graph::Graph;
-use lean::lean_order::lean_order;
 use lean::ready::ReadyActor;
+use planner::plan::Plan;
 use std::alloc::{AllocError, Global};
 use std::test::Fail;
 
@@ -11,22 +10,16 @@ const LINES_A: &str = "A 0 0\nA 0 0\nA 1 0\nA 1 4\nF 0 1 10\nF 1 2 6\nF 2 3 8\nF
 
 // The answer for a sheet, and what an output of five nines then holds.
 fn listed(heap: Global, lines: &str, memory: &mut [ReadyActor]) -> Result<String, AllocError> {
-    let mut graph = Graph::new(heap)?;
+    let mut plan = Plan::new(heap)?;
     let text = format!(in heap; "LGM 1\nM U 2 64 0 1\nP F\n{lines}")?;
-    let _ = graph.read(text.as_bytes());
+    let _ = plan.read(text.as_bytes());
     let mut out = [9; 5];
-    let answer = lean_order(&graph, memory, &mut out);
+    let answer = plan.lean_order(memory, &mut out);
     let [a, b, c, d, e] = out;
     let list = format!(in heap; "{a} {b} {c} {d} {e}")?;
     match answer {
         Ok(found) => format!(in heap; "{list}, {} actors, peak {}", found.actors, found.peak),
-        Err(fault) => {
-            format!(in heap;
-                "{list}, refused by {} of layer {}",
-                fault.number(),
-                fault.layer()
-            )
-        }
+        Err(fault) => format!(in heap; "{list}, {}", fault.report()),
     }
 }
 
@@ -42,7 +35,7 @@ fn lean_orders(rt: HostRuntime) -> Result<(), Fail> {
         ),
         // a FIFO with initial tokens is live all the time
         ("A 0 3\nA 0 0\nD 1 0 5\n", "0 1 9 9 9, 2 actors, peak 8"),
-        ("", "9 9 9 9 9, refused by 4 of layer 4"),
+        ("", "9 9 9 9 9, E 4 4 - - -"),
     ];
     for (lines, expected) in cases {
         let mut memory = [ReadyActor::default(); 4];
@@ -51,6 +44,6 @@ fn lean_orders(rt: HostRuntime) -> Result<(), Fail> {
     }
     let mut short = [ReadyActor::default(); 3];
     let found = listed(heap, LINES_A, &mut short)?;
-    assert_eq!(rt; found.as_str(), "9 9 9 9 9, refused by 16 of layer 5");
+    assert_eq!(rt; found.as_str(), "9 9 9 9 9, E 16 5 - - -");
     Ok(())
 }
