@@ -36,7 +36,7 @@ pub enum JobFault {
     NoSheet,
     // a call of a run was refused
     Run(RunFault),
-    // a question names an actor or an object that there is not
+    // a question names an actor, an object or a bank that there is not
     Unknown,
 }
 

@@ -1,10 +1,11 @@
 // Questions to a plan.
 
-ghost use Rattle.std.specs.Prelude.{◌≡◌, ◌<◌, length};
+ghost use Rattle.std.specs.Prelude.{◌≡◌, ◌<◌, true, length};
 ghost use Rattle.layout.specs.Spots.{spot_at};
 ghost use Rattle.layout.specs.Worlds.{use_at};
 ghost use Rattle.planner.specs.Plans.{footprint_of, places_of};
 ghost use Rattle.planner.specs.Replies.{Replies, RepliesPlaced, Whether, sheet_of};
+ghost use Rattle.planner.specs.Running.{HasBank};
 ghost use Rattle.rules.specs.Exclusion.{Excludes};
 ghost use Rattle.rules.specs.Objects.{object, object_count, touching};
 ghost use Rattle.rules.specs.Order.{Before};
@@ -70,15 +71,12 @@ impl Plan {
         Ok(self.layout.place(x, bank))
     }
 
-    // The banks in which object x has its homes, as a set.
+    // The banks in which object x has its homes, as a set. A plan that is not placed knows no homes.
     pub fn homes_of(&self, x: u32) -> Result<u64, JobFault>
-        ensures { RepliesPlaced self.now (x < length self.now.layout.spots.items) (spot_at self.now.layout.spots.items x).homes result }
+        ensures { Replies ((self.now.layout.placed ≡ true) × (x < length self.now.layout.spots.items)) (λ set. set ≡ (spot_at self.now.layout.spots.items x).homes) result }
     {
-        if !self.layout.is_placed() {
-            return Err(JobFault::Unplaced);
-        }
-        if x >= self.layout.len() {
-            return Err(JobFault::NoSuchPlace);
+        if !self.layout.is_placed() || x >= self.layout.len() {
+            return Err(JobFault::Unknown);
         }
         Ok(self.layout.homes(x))
     }
@@ -96,16 +94,16 @@ impl Plan {
         }
     }
 
-    // The bytes of the bank.
+    // The bytes of the bank. A plan that is not placed knows no banks.
     pub fn capacity(&self, bank: u32) -> Result<u32, JobFault>
-        ensures { RepliesPlaced self.now (bank < length self.now.layout.banks.items) (use_at self.now.layout.banks.items bank).capacity result }
+        ensures { Replies (HasBank self.now bank) (λ bytes. bytes ≡ (use_at self.now.layout.banks.items bank).capacity) result }
     {
         if !self.layout.is_placed() {
-            return Err(JobFault::Unplaced);
+            return Err(JobFault::Unknown);
         }
         match self.layout.banks().get(bank as usize) {
             Some(used) => Ok(used.capacity),
-            None => Err(JobFault::NoSuchPlace),
+            None => Err(JobFault::Unknown),
         }
     }
 }
