@@ -3,6 +3,7 @@ mod Placings
 mod Joined
 mod Owned
 mod Replying
+mod Unread
 mod Printing
 mod FaultLines
 mod Mapped

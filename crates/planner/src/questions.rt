@@ -1,15 +1,15 @@
 // Questions to a plan.
 
-ghost use Rattle.std.specs.Prelude.{◌≡◌, ◌<◌, true, length};
+ghost use Rattle.std.specs.Prelude.{◌≡◌, ◌<◌, true, false, length};
 ghost use Rattle.layout.specs.Spots.{spot_at};
 ghost use Rattle.layout.specs.Worlds.{use_at};
-ghost use Rattle.planner.specs.Plans.{footprint_of, places_of};
+ghost use Rattle.planner.specs.Plans.{HasNone, HasRead, footprint_of, places_of};
 ghost use Rattle.planner.specs.Replies.{Replies, RepliesPlaced, Whether, sheet_of};
 ghost use Rattle.planner.specs.Running.{HasBank};
 ghost use Rattle.rules.specs.Exclusion.{Excludes};
 ghost use Rattle.rules.specs.Objects.{object, object_count, touching};
 ghost use Rattle.rules.specs.Order.{Before};
-ghost use Rattle.rules.specs.Sheets.{actor_count};
+ghost use Rattle.rules.specs.Sheets.{Sheet, actor_count};
 
 use crate::faults::JobFault;
 use crate::plan::Plan;
@@ -18,16 +18,30 @@ use rules::memory::Object;
 impl Plan {
     // How many actors the sheet has; none where no sheet was read.
     pub fn actor_count(&self) -> u32
-        ensures { result ≡ actor_count (sheet_of self.now) }
+        ensures value { result ≡ actor_count (sheet_of self.now) }
+        ensures held { (s : Sheet) → HasRead self.now s → sheet_of self.now ≡ s }
+        ensures nobody { HasNone self.now → result ≡ 0 }
     {
         self.graph.actor_count()
     }
 
-    // How many objects the sheet has.
+    // How many objects the sheet has; none where no sheet was read.
     pub fn object_count(&self) -> u32
-        ensures { result ≡ object_count (sheet_of self.now) }
+        ensures value { result ≡ object_count (sheet_of self.now) }
+        ensures nothing { HasNone self.now → result ≡ 0 }
     {
         self.graph.object_count()
+    }
+
+    // How many banks the layout has; none where the plan is not placed.
+    pub fn bank_count(&self) -> u32
+        ensures placed { self.now.layout.placed ≡ true → result ≡ length self.now.layout.banks.items }
+        ensures unplaced { self.now.layout.placed ≡ false → result ≡ 0 }
+    {
+        if !self.layout.is_placed() {
+            return 0;
+        }
+        self.layout.banks().len() as u32
     }
 
     // Whether actor a is before actor b.
