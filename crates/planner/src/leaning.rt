@@ -20,8 +20,7 @@ impl Plan {
     ) -> Result<LeanPeak, JobFault>
         ensures { Lists self.now memory.old memory.new out.old out.new result }
     {
-        let listed = lean_order(&self.graph, memory, out)?;
-        Ok(listed)
+        Ok(lean_order(&self.graph, memory, out)?)
     }
 
     // The net change of actor a: what it produces minus what it consumes, by FIFOs without initial tokens.
