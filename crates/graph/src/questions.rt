@@ -67,6 +67,7 @@ impl Graph {
         let objects = self.sheet.objects.as_slice();
         objects.get(x as usize).copied()
     }
+
     // The cores that touch object x, as a set; none where the sheet has no such object.
     pub fn cores_touching(&self, x: u32) -> Option<u64>
         ensures { Touch (sheet_held self.now.sheet) x result }

@@ -10,7 +10,8 @@ use Rattle.rules.specs.Maps.{MapOf}
 use Rattle.rules.specs.Reading.{Gives, accepted, fault}
 use Rattle.rules.specs.Spelling.{number}
 
--- number and layer always stand, the others where they mean something
+-- number and layer always stand, the others where they mean something; the layers are 1 text, 2 graph,
+-- 3 placing and map, place, footprint and fit questions, 4 run, lean order and other questions, 5 output
 pub record Report : Type 0 where
   pub number : ℕ
   pub layer : ℕ
@@ -18,18 +19,13 @@ pub record Report : Type 0 where
   pub object : Option ℕ
   pub bank : Option ℕ
 
--- a fault of reading: layer 1 is the text, up to number 3, and layer 2 the graph; its line stands except for number 1
+-- a fault of reading: of the text up to number 3, of the graph above; its line stands except for number 1
 abbrev pub of_reading : ℕ → Option ℕ → Report
 of_reading n at = record { number = n; layer = cond (nat_le n 3) 1 2; line = at; object = None; bank = None }
 
 -- no gap holds the object: number 11 of layer 3, where object and bank stand
 abbrev pub of_placing : ℕ → ℕ → Report
 of_placing x b = record { number = 11; layer = 3; line = None; object = Some x; bank = Some b }
-
--- any other refusal has its number and layer alone: layer 3 placing, map, place, footprint and fit questions,
--- layer 4 the run, the lean order and other questions, layer 5 output
-abbrev pub of_call : ℕ → ℕ → Report
-of_call n layer = record { number = n; layer = layer; line = None; object = None; bank = None }
 
 -- a number, or `-` where it does not stand
 abbrev pub field : Option ℕ → List ℕ

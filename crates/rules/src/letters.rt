@@ -15,10 +15,10 @@ impl TryFrom<u8> for Kind {
     ghost try_from_gives = { λ b r. MatchResult r (λ kind. kind_of b ≡ Some kind) (λ e. (kind_of b ≡ None) × (e.0 ≡ b)) };
 
     fn try_from(letter: u8) -> Result<Kind, UnknownLetter> {
-        match letter {
-            b'U' => Ok(Kind::Unified),
-            b'V' => Ok(Kind::Private),
-            b'H' => Ok(Kind::Hybrid),
+        match char::from(letter) {
+            'U' => Ok(Kind::Unified),
+            'V' => Ok(Kind::Private),
+            'H' => Ok(Kind::Hybrid),
             _ => Err(UnknownLetter(letter)),
         }
     }
@@ -30,9 +30,9 @@ impl TryFrom<u8> for Fit {
     ghost try_from_gives = { λ b r. MatchResult r (λ fit. fit_of b ≡ Some fit) (λ e. (fit_of b ≡ None) × (e.0 ≡ b)) };
 
     fn try_from(letter: u8) -> Result<Fit, UnknownLetter> {
-        match letter {
-            b'F' => Ok(Fit::First),
-            b'B' => Ok(Fit::Best),
+        match char::from(letter) {
+            'F' => Ok(Fit::First),
+            'B' => Ok(Fit::Best),
             _ => Err(UnknownLetter(letter)),
         }
     }

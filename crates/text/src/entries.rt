@@ -22,94 +22,134 @@ fn kind_field(s: &[u8]) -> Option<(Kind, &[u8])>
 }
 
 // The machine that the fields after `M` describe.
-fn machine(s: &[u8]) -> Option<Entry>
-    ensures { result ≡ machine_of s.now }
+fn machine(s: &[u8], at: u32) -> Result<Entry, TextFault>
+    ensures { result ≡ ok_or (machine_of s.now) (Malformed at) }
 {
-    let (kind, s) = kind_field(s)?;
-    let (cores, s) = field(s)?;
-    let (shared, s) = field(s)?;
-    let (private, s) = field(s)?;
-    let (grain, s) = field(s)?;
-    let entry = Entry::OnMachine(Machine {
+    let Some((kind, s)) = kind_field(s) else {
+        return Err(TextFault::Malformed(at));
+    };
+    let Some((cores, s)) = field(s) else {
+        return Err(TextFault::Malformed(at));
+    };
+    let Some((shared, s)) = field(s) else {
+        return Err(TextFault::Malformed(at));
+    };
+    let Some((private, s)) = field(s) else {
+        return Err(TextFault::Malformed(at));
+    };
+    let Some((grain, s)) = field(s) else {
+        return Err(TextFault::Malformed(at));
+    };
+    let [] = s else {
+        return Err(TextFault::Malformed(at));
+    };
+    Ok(Entry::OnMachine(Machine {
         kind,
         cores,
         shared,
         private,
         grain,
-    });
-    s.is_empty().then_some(entry)
+    }))
 }
 
 // The fit rule that the field after `P` names.
-fn fit_line(s: &[u8]) -> Option<Entry>
-    ensures { result ≡ fit_line_of s.now }
+fn fit_line(s: &[u8], at: u32) -> Result<Entry, TextFault>
+    ensures { result ≡ ok_or (fit_line_of s.now) (Malformed at) }
 {
-    match s {
-        [b' ', letter] => Fit::try_from(*letter).ok().map(Entry::ByFit),
-        _ => None,
-    }
+    let [b' ', letter] = s else {
+        return Err(TextFault::Malformed(at));
+    };
+    let Ok(fit) = Fit::try_from(*letter) else {
+        return Err(TextFault::Malformed(at));
+    };
+    Ok(Entry::ByFit(fit))
 }
 
 // A number as the only field.
-fn one_number(s: &[u8]) -> Option<u32>
-    ensures { result ≡ lone_of s.now }
+fn one_number(s: &[u8], at: u32) -> Result<u32, TextFault>
+    ensures { result ≡ ok_or (lone_of s.now) (Malformed at) }
 {
-    let (n, s) = field(s)?;
-    s.is_empty().then_some(n)
+    let Some((n, s)) = field(s) else {
+        return Err(TextFault::Malformed(at));
+    };
+    let [] = s else {
+        return Err(TextFault::Malformed(at));
+    };
+    Ok(n)
 }
 
 // The actor that the fields after `A` describe.
-fn actor(s: &[u8]) -> Option<Entry>
-    ensures { result ≡ actor_of s.now }
+fn actor(s: &[u8], at: u32) -> Result<Entry, TextFault>
+    ensures { result ≡ ok_or (actor_of s.now) (Malformed at) }
 {
-    let (core, s) = field(s)?;
-    let (work, s) = field(s)?;
-    let entry = Entry::NextActor(Actor { core, work });
-    s.is_empty().then_some(entry)
+    let Some((core, s)) = field(s) else {
+        return Err(TextFault::Malformed(at));
+    };
+    let Some((work, s)) = field(s) else {
+        return Err(TextFault::Malformed(at));
+    };
+    let [] = s else {
+        return Err(TextFault::Malformed(at));
+    };
+    Ok(Entry::NextActor(Actor { core, work }))
 }
 
 // The FIFO that the fields after `F` or `D` describe.
-fn fifo(s: &[u8]) -> Option<Fifo>
-    ensures { result ≡ fifo_of s.now }
+fn fifo(s: &[u8], at: u32) -> Result<Fifo, TextFault>
+    ensures { result ≡ ok_or (fifo_of s.now) (Malformed at) }
 {
-    let (from, s) = field(s)?;
-    let (to, s) = field(s)?;
-    let (size, s) = field(s)?;
-    s.is_empty().then_some(Fifo { from, to, size })
+    let Some((from, s)) = field(s) else {
+        return Err(TextFault::Malformed(at));
+    };
+    let Some((to, s)) = field(s) else {
+        return Err(TextFault::Malformed(at));
+    };
+    let Some((size, s)) = field(s) else {
+        return Err(TextFault::Malformed(at));
+    };
+    let [] = s else {
+        return Err(TextFault::Malformed(at));
+    };
+    Ok(Fifo { from, to, size })
 }
 
 // The ordering of the two actors that the fields after `S` name.
-fn sequence(s: &[u8]) -> Option<Entry>
-    ensures { result ≡ sequence_of s.now }
+fn sequence(s: &[u8], at: u32) -> Result<Entry, TextFault>
+    ensures { result ≡ ok_or (sequence_of s.now) (Malformed at) }
 {
-    let (first, s) = field(s)?;
-    let (second, s) = field(s)?;
-    let entry = Entry::NextLink(Link::Ordered(Sequence { first, second }));
-    s.is_empty().then_some(entry)
+    let Some((first, s)) = field(s) else {
+        return Err(TextFault::Malformed(at));
+    };
+    let Some((second, s)) = field(s) else {
+        return Err(TextFault::Malformed(at));
+    };
+    let [] = s else {
+        return Err(TextFault::Malformed(at));
+    };
+    Ok(Entry::NextLink(Link::Ordered(Sequence { first, second })))
 }
 
-// What `line` says, if it is well written: its letter decides.
+// What `line` says, which is line `at` of the text: its letter decides.
 #[tactic(auto, unfolding(rules::specs::Fields::entry_of))]
-fn well_written(line: &[u8]) -> Option<Entry>
-    ensures { result ≡ entry_of line.now }
-{
-    let (letter, rest) = line.split_first()?;
-    match letter {
-        b'M' => machine(rest),
-        b'P' => fit_line(rest),
-        b'L' => one_number(rest).map(Layer::LowLine).map(Entry::WithLayer),
-        b'K' => one_number(rest).map(Layer::SnugLimit).map(Entry::WithLayer),
-        b'A' => actor(rest),
-        b'F' => fifo(rest).map(Link::Plain).map(Entry::NextLink),
-        b'D' => fifo(rest).map(Link::Delayed).map(Entry::NextLink),
-        b'S' => sequence(rest),
-        _ => None,
-    }
-}
-
-// What `line` says, which is line `at` of the text.
 pub fn entry_of(line: &[u8], at: u32) -> Result<Entry, TextFault>
     ensures { result ≡ ok_or (entry_of line.now) (Malformed at) }
 {
-    well_written(line).ok_or(TextFault::Malformed(at))
+    let [letter, rest @ ..] = line else {
+        return Err(TextFault::Malformed(at));
+    };
+    match char::from(*letter) {
+        'M' => machine(rest, at),
+        'P' => fit_line(rest, at),
+        'L' => one_number(rest, at)
+            .map(Layer::LowLine)
+            .map(Entry::WithLayer),
+        'K' => one_number(rest, at)
+            .map(Layer::SnugLimit)
+            .map(Entry::WithLayer),
+        'A' => actor(rest, at),
+        'F' => fifo(rest, at).map(Link::Plain).map(Entry::NextLink),
+        'D' => fifo(rest, at).map(Link::Delayed).map(Entry::NextLink),
+        'S' => sequence(rest, at),
+        _ => Err(TextFault::Malformed(at)),
+    }
 }

@@ -22,7 +22,9 @@ pub fn within_limit(text: &[u8]) -> Result<(), TextFault>
 pub fn after_header(text: &[u8]) -> Result<&[u8], TextFault>
     ensures { AfterHeader text.now result }
 {
-    let rest = text.strip_prefix(b"LGM 1").ok_or(TextFault::NoHeader)?;
+    let Some(rest) = text.strip_prefix(b"LGM 1") else {
+        return Err(TextFault::NoHeader);
+    };
     match rest {
         [] => Err(TextFault::Malformed(1)),
         [b'\n', lines @ ..] => Ok(lines),
@@ -50,7 +52,9 @@ fn cut_line(text: &[u8]) -> Option<(&[u8], &[u8])>
 pub fn next_entry(text: &[u8], at: u32) -> Result<(Entry, &[u8]), TextFault>
     ensures { NextEntry text.now at result }
 {
-    let (line, rest) = cut_line(text).ok_or(TextFault::Malformed(at))?;
+    let Some((line, rest)) = cut_line(text) else {
+        return Err(TextFault::Malformed(at));
+    };
     let entry = entry_of(line, at)?;
     Ok((entry, rest))
 }
