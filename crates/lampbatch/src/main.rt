@@ -4,6 +4,7 @@
 
 ghost use Rattle.std.specs.Prelude.{◌<◌, length, IfSome};
 
+use graph::objects::MOST_OBJECTS;
 use layout::turns::Candidate;
 use map::writing::MOST_MAP;
 use planner::plan::Plan;
@@ -22,7 +23,7 @@ fn next_sheet(input: &[u8]) -> Option<(&[u8], &[u8])>
 // Prints what one sheet gives.
 fn print_answer(rt: &HostRuntime, plan: &mut Plan, sheet: &[u8], out: &mut [u8]) -> io::Result<()> {
     // kept: a plan takes no memory of its own; its caller lends room for 256 candidates
-    let mut memory = [Candidate::default(); 256];
+    let mut memory = [Candidate::default(); MOST_OBJECTS];
     match plan.answer(sheet, &mut memory, out) {
         Ok(end) => rt.stdout().write_all(&out[0..end])?,
         Err(fault) => {

@@ -2,6 +2,7 @@
 #![tactic(auto)]
 
 use anyhow::anyhow;
+use graph::objects::MOST_OBJECTS;
 use layout::turns::Candidate;
 use map::writing::MOST_MAP;
 use planner::plan::Plan;
@@ -23,7 +24,7 @@ fn main(rt: HostRuntime) -> anyhow::Result<()> {
     let text = read_sheet(&rt)?;
     let mut plan = Plan::new(rt.alloc())?;
     // kept: a plan takes no memory of its own; its caller lends room for 256 candidates
-    let mut memory = [Candidate::default(); 256];
+    let mut memory = [Candidate::default(); MOST_OBJECTS];
     let mut out = vec![in rt.alloc(); 0; MOST_MAP]?;
     match plan.answer(text.as_slice(), &mut memory, out.as_mut_slice()) {
         Ok(end) => {

@@ -8,6 +8,7 @@ mod rehearsal;
 mod tests;
 
 use anyhow::anyhow;
+use graph::objects::MOST_OBJECTS;
 use layout::turns::Candidate;
 use planner::faults::JobFault;
 use planner::plan::Plan;
@@ -43,7 +44,7 @@ fn print_refusal(rt: &HostRuntime, fault: JobFault) -> anyhow::Result<ExitCode> 
 fn rehearse(rt: &HostRuntime, sheet: &[u8]) -> anyhow::Result<ExitCode> {
     let mut plan = Plan::new(rt.alloc())?;
     // kept: a plan takes no memory of its own; its caller lends room for 256 candidates
-    let mut memory = [Candidate::default(); 256];
+    let mut memory = [Candidate::default(); MOST_OBJECTS];
     if let Err(fault) = plan.plan(sheet, &mut memory) {
         return print_refusal(rt, fault);
     }

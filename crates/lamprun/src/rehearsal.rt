@@ -7,9 +7,6 @@ use planner::plan_run::PlanRun;
 use std::io;
 use std::io::{BufRead, BufReader, Read, Stdin};
 
-// The most banks that a fabric has.
-const MOST_BANKS: u32 = 16;
-
 // More bytes than any call has: of a longer line no more is kept.
 const MOST_LINE: usize = 64;
 
@@ -42,8 +39,8 @@ fn answer(rt: &HostRuntime, run: &mut PlanRun<'_>, line: &[u8], number: u64) -> 
 // Prints where object x lies.
 fn print_homes(rt: &HostRuntime, plan: &Plan, x: u32) -> anyhow::Result<()> {
     let size = plan.object(x).map_err(refused)?.size;
-    for bank in 0..MOST_BANKS {
-        if let Ok(Some(at)) = plan.place_of(x, bank) {
+    for bank in 0..plan.bank_count() {
+        if let Some(at) = plan.place_of(x, bank).map_err(refused)? {
             println!(rt; "object {x} is live in bank {bank} at {at}, {size} bytes")?;
         }
     }
@@ -58,10 +55,8 @@ fn print_live(rt: &HostRuntime, run: &PlanRun<'_>) -> anyhow::Result<()> {
             print_homes(rt, plan, x)?;
         }
     }
-    for bank in 0..MOST_BANKS {
-        let Ok(footprint) = plan.footprint(bank) else {
-            break;
-        };
+    for bank in 0..plan.bank_count() {
+        let footprint = plan.footprint(bank).map_err(refused)?;
         let live = run.live_bytes_in(bank).map_err(refused)?;
         println!(rt; "bank {bank} has {live} of {footprint} bytes live")?;
     }
@@ -73,6 +68,7 @@ pub fn rehearse(rt: &HostRuntime, plan: &Plan) -> anyhow::Result<()> {
     let mut run = plan.run();
     let mut input = BufReader::new(rt.alloc(), rt.stdin())?;
     let mut line = Vec::new(rt.alloc());
+    // kept: a loop has to end, and no input has more lines than this
     for number in 1..u64::MAX {
         if !next_line(&mut input, &mut line)? {
             break;

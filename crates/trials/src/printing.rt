@@ -2,6 +2,7 @@
 
 use fabric::Fabric;
 use fit::FitRule;
+use graph::objects::MOST_OBJECTS;
 use layout::turns::Candidate;
 use map::writing::MOST_MAP;
 use planner::faults::JobFault;
@@ -34,7 +35,7 @@ where
 {
     let mut plan = Plan::new(heap)?;
     // kept: a plan takes no memory of its own; its caller lends room for 256 candidates
-    let mut memory = [Candidate::default(); 256];
+    let mut memory = [Candidate::default(); MOST_OBJECTS];
     let mut out = vec![in heap; 0; MOST_MAP]?;
     match answer(&mut plan, &mut memory, out.as_mut_slice()) {
         Ok(end) => {
