@@ -1,12 +1,9 @@
-use Rattle.std.proofs.Common.{◌≡◌, None, refl, arith}
+use Rattle.std.proofs.Common.{◌≡◌, None, arith}
 use Rattle.std.proofs.lemmas.Result.{err_from_is_err_and}
 use Rattle.rules.specs.Fields.{entry_of}
-use Rattle.rules.proofs.Cuts.{good_line, bad_line, no_line}
+use Rattle.rules.proofs.Cuts.{good_line, bad_line}
 use Rattle.text.specs.declared.faults.TextFault.TheVariants.{Malformed}
 use Rattle.text.proofs.lines.next_entry.Goals as goal
-
-pub returns-in_default : goal.returns-in_default
-returns-in_default c = (refl, no_line c.args.text.now c.in_default.ensures)
 
 pub returns-in_err-entry : goal.returns-in_err-entry
 returns-in_err-entry c =
