@@ -1,61 +1,74 @@
--- Gaps ascend if each has a byte and ends at or below the start of the next.
-use Rattle.std.proofs.Common.{◌≡◌, ℕ, zero, suc, ◌+◌, ◌<◌, ◌≤◌, Bool, true, false, ltb, leb, List, [], ◌∷◌, length, get_or, refl, sym, subst, arith}
-use Rattle.std.specs.List.{list_all, AllAdjacentBelow, IsAllAdjacentAnswer}
+-- Gaps ascend if the first has a byte, and each other has one and starts at or beyond the end of the one before it.
+use Rattle.std.proofs.Common.{◌≡◌, ℕ, zero, suc, ◌+◌, ◌<◌, ◌≤◌, Bool, true, false, ◌&&◌, ltb, leb, List, [], ◌∷◌, length, get_or, Some, None, Option, Bor, refl, sym, ap, ◌∙◌, subst, arith}
+use Rattle.std.specs.List.{AllAdjacentBelow, IsAllAdjacentAnswer, slice_get}
+use Rattle.std.specs.Option.{MatchOption, option_copied}
 use Rattle.std.proofs.lemmas.Bool.{and_parts, and_from, both_ways, leb-true, ltb-true, lt-ltb, le-leb}
 use Rattle.rules.specs.declared.memory.Stretch.{Stretch}
 use Rattle.rules.specs.Fitting.{ascend_from}
-use Rattle.rules.proofs.Questions.{next_parts, next_from}
+use Rattle.rules.proofs.Questions.{Next, next_parts, next_from}
 use Rattle.fit.specs.Asking.{filled}
 
--- a gap ends at or below the start of another
-abbrev before : Stretch → Stretch → Bool
-before g h = leb g.end h.start
+-- a gap may stand behind another
+abbrev pub follows : Stretch → Stretch → Bool
+follows g h = leb g.end h.start && filled h
 
-first_fills : (g : Stretch) (gs : List Stretch) → list_all filled (g ∷ gs) ≡ true → (g.start < g.end) × (g.end ≤ 4294967295) × (list_all filled gs ≡ true)
-first_fills g gs all =
-    let a = and_parts (filled g) (list_all filled gs) all in
-    let b = and_parts (ltb g.start g.end) (leb g.end 4294967295) a.0 in
-    (ltb-true g.start g.end b.0, leb-true g.end 4294967295 b.1, a.1)
+-- the first gap, if there is one, has a byte
+abbrev pub first_filled : List Stretch → Bool
+first_filled [] = true
+first_filled (g ∷ gs) = filled g
 
-ascends : (low : ℕ) (g : Stretch) (gs : List Stretch) → low ≤ g.start → list_all filled (g ∷ gs) ≡ true →
-    AllAdjacentBelow (λ x y. true ≡ before x y) (g ∷ gs) (length (g ∷ gs)) → ascend_from low (g ∷ gs) ≡ true
-ascends low g [] above all next = let f = first_fills g [] all in next_from low g [] (above, f.0, f.1) refl
-ascends low g (h ∷ gs) above all next =
-    let f = first_fills g (h ∷ gs) all in
-    let on : AllAdjacentBelow (λ x y. true ≡ before x y) (h ∷ gs) (length (h ∷ gs)) =
+next_of : (low : ℕ) (g : Stretch) → low ≤ g.start → filled g ≡ true → Next low g
+next_of low g above fills =
+    let f = and_parts (ltb g.start g.end) (leb g.end 4294967295) fills in (above, ltb-true g.start g.end f.0, leb-true g.end 4294967295 f.1)
+
+fills_of : (low : ℕ) (g : Stretch) → Next low g → filled g ≡ true
+fills_of low g n = and_from (ltb g.start g.end) (leb g.end 4294967295) (lt-ltb g.start g.end n.1) (le-leb g.end 4294967295 n.2)
+
+ascends : (low : ℕ) (g : Stretch) (gs : List Stretch) → low ≤ g.start → filled g ≡ true →
+    AllAdjacentBelow (λ x y. true ≡ follows x y) (g ∷ gs) (length (g ∷ gs)) → ascend_from low (g ∷ gs) ≡ true
+ascends low g [] above fills next = next_from low g [] (next_of low g above fills) refl
+ascends low g (h ∷ gs) above fills next =
+    let on : AllAdjacentBelow (λ x y. true ≡ follows x y) (h ∷ gs) (length (h ∷ gs)) =
     λ k d l. let e : suc k + 1 ≡ suc (k + 1) = omega arith in
-    subst (λ j. true ≡ before (get_or (h ∷ gs) k d) (get_or (g ∷ h ∷ gs) j d)) e (next (suc k) d (omega arith))
+    subst (λ j. true ≡ follows (get_or (h ∷ gs) k d) (get_or (g ∷ h ∷ gs) j d)) e (next (suc k) d (omega arith))
     in
-    next_from low g (h ∷ gs) (above, f.0, f.1) (ascends g.end h gs (leb-true g.end h.start (sym (next 0 g (omega arith)))) f.2 on)
+    let two = and_parts (leb g.end h.start) (filled h) (sym (next 0 g (omega arith))) in
+    next_from low g (h ∷ gs) (next_of low g above fills) (ascends g.end h gs (leb-true g.end h.start two.0) two.1 on)
 
-all_filled : (low : ℕ) (gs : List Stretch) → ascend_from low gs ≡ true → list_all filled gs ≡ true
-all_filled low [] t = refl
-all_filled low (g ∷ gs) t =
-    let p = next_parts low g gs t in
-    and_from (filled g) (list_all filled gs) (and_from (ltb g.start g.end) (leb g.end 4294967295) (lt-ltb g.start g.end p.0.1) (le-leb g.end 4294967295 p.0.2))
-    (all_filled g.end gs p.1)
+first_fills : (low : ℕ) (gs : List Stretch) → ascend_from low gs ≡ true → first_filled gs ≡ true
+first_fills low [] t = refl
+first_fills low (g ∷ gs) t = fills_of low g (next_parts low g gs t).0
 
-next_above : (low : ℕ) (gs : List Stretch) → ascend_from low gs ≡ true → (k : ℕ) (d : Stretch) → k + 1 < length gs → before (get_or gs k d) (get_or gs (k + 1) d) ≡ true
-next_above low [] t k d l = absurd (omega arith)
-next_above low (g ∷ []) t k d l = absurd (omega arith)
-next_above low (g ∷ h ∷ gs) t zero d l =
-    let p = next_parts low g (h ∷ gs) t in le-leb g.end h.start (next_parts g.end h gs p.1).0.0
-next_above low (g ∷ h ∷ gs) t (suc k) d l =
+next_follows : (low : ℕ) (gs : List Stretch) → ascend_from low gs ≡ true → (k : ℕ) (d : Stretch) → k + 1 < length gs → follows (get_or gs k d) (get_or gs (k + 1) d) ≡ true
+next_follows low [] t k d l = absurd (omega arith)
+next_follows low (g ∷ []) t k d l = absurd (omega arith)
+next_follows low (g ∷ h ∷ gs) t zero d l =
+    let n = (next_parts g.end h gs (next_parts low g (h ∷ gs) t).1).0 in
+    and_from (leb g.end h.start) (filled h) (le-leb g.end h.start n.0) (fills_of g.end h n)
+next_follows low (g ∷ h ∷ gs) t (suc k) d l =
     let e : suc (k + 1) ≡ suc k + 1 = omega arith in
-    subst (λ j. before (get_or (h ∷ gs) k d) (get_or (g ∷ h ∷ gs) j d) ≡ true) e
-    (next_above g.end (h ∷ gs) (next_parts low g (h ∷ gs) t).1 k d (omega arith))
+    subst (λ j. follows (get_or (h ∷ gs) k d) (get_or (g ∷ h ∷ gs) j d) ≡ true) e
+    (next_follows g.end (h ∷ gs) (next_parts low g (h ∷ gs) t).1 k d (omega arith))
 
 refuted : (b : Bool) → (b ≡ true → ⊥) → false ≡ b
 refuted true n = absurd (n refl)
 refuted false n = refl
 
-pub sorted_ascends : (gs : List Stretch) (r : Bool) → list_all filled gs ≡ true → IsAllAdjacentAnswer (λ x y b. b ≡ before x y) gs r → r ≡ ascend_from 0 gs
-sorted_ascends [] true all next = refl
-sorted_ascends [] false all next = absurd (omega (arith, next.1))
-sorted_ascends (g ∷ gs) true all next = sym (ascends 0 g gs (omega arith) all next)
-sorted_ascends (g ∷ gs) false all next =
+pub sorted_ascends : (gs : List Stretch) (r : Bool) → first_filled gs ≡ true → IsAllAdjacentAnswer (λ x y b. b ≡ follows x y) gs r → r ≡ ascend_from 0 gs
+sorted_ascends [] true fills next = refl
+sorted_ascends [] false fills next = absurd (omega (arith, next.1))
+sorted_ascends (g ∷ gs) true fills next = sym (ascends 0 g gs (omega arith) fills next)
+sorted_ascends (g ∷ gs) false fills next =
     refuted (ascend_from 0 (g ∷ gs))
-    (λ t. both_ways (before (get_or (g ∷ gs) next.0 g) (get_or (g ∷ gs) (next.0 + 1) g)) (sym (next.2 g)) (next_above 0 (g ∷ gs) t next.0 g next.1))
+    (λ t. both_ways (follows (get_or (g ∷ gs) next.0 g) (get_or (g ∷ gs) (next.0 + 1) g)) (sym (next.2 g)) (next_follows 0 (g ∷ gs) t next.0 g next.1))
 
-pub empty_refuses : (gs : List Stretch) → list_all filled gs ≡ false → false ≡ ascend_from 0 gs
-empty_refuses gs some = refuted (ascend_from 0 gs) (λ t. both_ways (list_all filled gs) some (all_filled 0 gs t))
+pub empty_refuses : (gs : List Stretch) → first_filled gs ≡ false → false ≡ ascend_from 0 gs
+empty_refuses gs empty = refuted (ascend_from 0 gs) (λ t. both_ways (first_filled gs) empty (first_fills 0 gs t))
+
+-- the test of the first gap
+pub first_test : (gs : List Stretch) (first : Option (Bor Stretch)) (r : Bool) → option_copied first ≡ slice_get gs 0 →
+    MatchOption first (r ≡ true) (λ g. r ≡ filled g.now) → r ≡ first_filled gs
+first_test [] None r at is = is
+first_test [] (Some h) r at is = absurd (cc)
+first_test (g ∷ gs) None r at is = absurd (cc)
+first_test (g ∷ gs) (Some h) r at is = let same : h.now ≡ g = cc in is ∙ ap filled same

@@ -17,7 +17,8 @@ pub(crate) fn is_in_range(gaps: &[Stretch], size: u32, grain: u32) -> bool
 fn are_ascending(gaps: &[Stretch]) -> bool
     ensures { result ≡ ascend_from 0 gaps.now }
 {
-    gaps.iter().all(|gap| is_filled(*gap)) && gaps.is_sorted_by(|gap, next| gap.end <= next.start)
+    gaps.first().is_none_or(|gap| is_filled(*gap))
+        && gaps.is_sorted_by(|gap, next| gap.end <= next.start && is_filled(*next))
 }
 
 // Whether a gap has a byte.
