@@ -1,6 +1,6 @@
 // Taking a link.
 
-ghost use Rattle.std.specs.Prelude.{◌≡◌, ◌+◌, ◌<◌, ◌≤◌, [], ◌∷◌, length, None, MatchOption, vec_len, ◌==◌};
+ghost use Rattle.std.specs.Prelude.{◌≡◌, ◌+◌, ◌<◌, ◌≤◌, [], ◌∷◌, length, None, MatchOption, OnErr, vec_len, ◌==◌};
 ghost use Rattle.graph.specs.Judging.{judge_fifo, judge_plain, judge_sequence};
 ghost use Rattle.graph.specs.Ranges.{size_in_range};
 ghost use Rattle.graph.specs.Taking.{Allowed, Judges, Took, draft_of};
@@ -129,7 +129,8 @@ impl ReadSheet {
     // Takes a link, or refuses it and changes nothing.
     fn take_link(&mut self, link: Link) -> Result<(), Refusal>
         requires { vec_len self.old.links.list < 10922 }
-        ensures { Took (draft_of self.old) (NextLink link) (draft_of self.new) result }
+        ensures took { Took (draft_of self.old) (NextLink link) (draft_of self.new) result }
+        ensures kept { OnErr result (self.new ≡ self.old) }
     {
         self.judge(link)?;
         self.links.push(link);
@@ -139,10 +140,11 @@ impl ReadSheet {
         Ok(())
     }
 
-    // Takes what one line says, or refuses it.
+    // Takes what one line says, or refuses it and changes nothing.
     pub(crate) fn take(&mut self, entry: Entry) -> Result<(), Refusal>
         requires { vec_len self.old.links.list + link_count entry ≤ 10922 }
-        ensures { Took (draft_of self.old) entry (draft_of self.new) result }
+        ensures took { Took (draft_of self.old) entry (draft_of self.new) result }
+        ensures kept { OnErr result (self.new ≡ self.old) }
     {
         match entry {
             Entry::OnMachine(machine) => self.take_machine(machine),

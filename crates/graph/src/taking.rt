@@ -1,6 +1,6 @@
 // Taking what one line says.
 
-ghost use Rattle.std.specs.Prelude.{◌≡◌, ◌+◌, ◌<◌, ◌≤◌, true, [], ◌∷◌, ◌++◌, length, vec_len};
+ghost use Rattle.std.specs.Prelude.{◌≡◌, ◌+◌, ◌<◌, ◌≤◌, true, [], ◌∷◌, ◌++◌, length, OnErr, vec_len};
 ghost use Rattle.graph.specs.Judging.{has_sort, judge_actor, judge_fit, judge_layer, judge_machine, same_sort};
 ghost use Rattle.graph.specs.Stages.{is_ruled};
 ghost use Rattle.graph.specs.Ranges.{machine_in_range, size_in_range};
@@ -47,7 +47,8 @@ fn has_such(layers: &[Layer], layer: Layer) -> bool
 
 impl ReadSheet {
     pub(crate) fn take_machine(&mut self, machine: Machine) -> Result<(), Refusal>
-        ensures { TookBy (judge_machine self.old.stage machine) (draft_of self.old) (OnMachine machine) (draft_of self.new) result }
+        ensures took { TookBy (judge_machine self.old.stage machine) (draft_of self.old) (OnMachine machine) (draft_of self.new) result }
+        ensures kept { OnErr result (self.new ≡ self.old) }
     {
         // kept: a stage is one of three, so no Option says whether it is this one.
         let Stage::Blank = self.stage else {
@@ -61,7 +62,8 @@ impl ReadSheet {
     }
 
     pub(crate) fn take_fit(&mut self, fit: Fit) -> Result<(), Refusal>
-        ensures { TookBy (judge_fit self.old.stage) (draft_of self.old) (ByFit fit) (draft_of self.new) result }
+        ensures took { TookBy (judge_fit self.old.stage) (draft_of self.old) (ByFit fit) (draft_of self.new) result }
+        ensures kept { OnErr result (self.new ≡ self.old) }
     {
         // kept: a stage is one of three, so no Option says whether it is this one.
         let Stage::Machined(machine) = self.stage else {
@@ -72,7 +74,8 @@ impl ReadSheet {
     }
 
     pub(crate) fn take_layer(&mut self, layer: Layer) -> Result<(), Refusal>
-        ensures { TookBy (judge_layer self.old.stage (vec_len self.old.actors) self.old.layers.items layer) (draft_of self.old) (WithLayer layer) (draft_of self.new) result }
+        ensures took { TookBy (judge_layer self.old.stage (vec_len self.old.actors) self.old.layers.items layer) (draft_of self.old) (WithLayer layer) (draft_of self.new) result }
+        ensures kept { OnErr result (self.new ≡ self.old) }
     {
         // kept: a stage is one of three, so no Option says whether it is this one.
         let Stage::Ruled(_, _) = self.stage else {
@@ -89,7 +92,8 @@ impl ReadSheet {
     }
 
     pub(crate) fn take_actor(&mut self, actor: Actor) -> Result<(), Refusal>
-        ensures { TookBy (judge_actor self.old.stage (vec_len self.old.actors) (vec_len self.old.links.list) actor) (draft_of self.old) (NextActor actor) (draft_of self.new) result }
+        ensures took { TookBy (judge_actor self.old.stage (vec_len self.old.actors) (vec_len self.old.links.list) actor) (draft_of self.old) (NextActor actor) (draft_of self.new) result }
+        ensures kept { OnErr result (self.new ≡ self.old) }
     {
         // kept: a stage is one of three, so no Option says whether it is this one.
         let Stage::Ruled(machine, _) = self.stage else {

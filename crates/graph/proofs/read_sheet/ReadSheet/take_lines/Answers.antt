@@ -32,7 +32,7 @@ pub returns-in_err-map_err : goal.returns-in_err-map_err
 returns-in_err-map_err c =
     let p = err_from_is_err_and c.from_residual-in_err-map_err.result c.from_residual-in_err-map_err.ensures.1 in
     let mapped : MatchResult c.take.result (λ u. c.map_err.result ≡ Ok u) (λ e. IsErrAnd c.map_err.result (λ f. f ≡ Refused e c.loop-rest.at)) = search rules in
-    let r = rejected (draft_of c.loop-rest.self) c.in_ok-entry.entry (draft_of c.take.new.self) c.take.result c.map_err.result c.loop-rest.at c.in_err-map_err.field-0.0 c.take.ensures mapped c.in_err-map_err.was in
+    let r = rejected (draft_of c.loop-rest.self) c.in_ok-entry.entry (draft_of c.take.new.self) c.take.result c.map_err.result c.loop-rest.at c.in_err-map_err.field-0.0 c.take.ensures.took mapped c.in_err-map_err.was in
     rw (p.1, p.2, r.2) (c.loop-rest.invariant.2 (fault (refusal_number r.0) (Some c.loop-rest.at)) (refused c.in_ok-entry.entry c.in_ok-entry.more.now (refusal_number r.0) c.in_ok-entry.ensures r.1))
 
 pub loop-rest-preserved : goal.loop-rest-preserved
@@ -40,7 +40,7 @@ loop-rest-preserved c =
     let goes = c.in_ok-entry.ensures in
     let spent = goes_spends c.loop-rest.rest.now c.in_ok-entry.entry c.in_ok-entry.more.now goes in
     let ok : is_ok c.take.result ≡ true = search rules in
-    let t = accepted (draft_of c.loop-rest.self) c.in_ok-entry.entry (draft_of c.take.new.self) c.take.result ok c.take.ensures in
+    let t = accepted (draft_of c.loop-rest.self) c.in_ok-entry.entry (draft_of c.take.new.self) c.take.result ok c.take.ensures.took in
     let links = links_after c.loop-rest.self c.take.new.self c.in_ok-entry.entry t.1 in (
       omega arith,
       omega (arith, c.loop-rest.invariant.1),
