@@ -1,8 +1,8 @@
 -- The laws of the digits of a word.
-use Rattle.std.proofs.Common.{◌≡◌, ℕ, zero, suc, ◌-◌, ◌/◌, ◌%◌, ◌^◌, ◌<◌, ◌≤◌, false, not, ◌&&◌, ◌||◌, eqb, sym, ap, ◌∙◌, arith, w64}
+use Rattle.std.proofs.Common.{◌≡◌, ℕ, zero, suc, ◌-◌, ◌/◌, ◌%◌, ◌^◌, ◌<◌, ◌≤◌, false, not, ◌&&◌, ◌||◌, eqb, refl, sym, ap, ◌∙◌, pow-suc, arith}
 use lib.Bits.{bit_and, bit_or}
-use lib.Count.{count_trailing_zeros}
-use Rattle.std.proofs.lemmas.Nat.Bits.{bit_at_lowest, bit_at-suc, bit_at-zero, bit_at_and, bit_at_or, bit_at-pow_same, bit_at-pow_other, bit_at-trailing_zeros, bit_at-lt, bit_at_above}
+use lib.Count.{count_trailing_zeros, under}
+use Rattle.std.proofs.lemmas.Nat.Bits.{bit_at_lowest, bit_at-suc, bit_at-zero, bit_at_and, bit_at_or, bit_at-pow_same, bit_at-pow_other, bit_at-lt, bit_at_above}
 use Rattle.std.proofs.lemmas.Bool.Decides.{nat_tests}
 use Rattle.words.specs.Words.{bit, Lowest}
 
@@ -24,7 +24,7 @@ first_false w even = ap (λ d. eqb d 1) (bit_at_lowest w ∙ even)
 pub bit_of_or : (a b k : ℕ) → bit (bit_or a b) k ≡ (bit a k || bit b k)
 bit_of_or a b k = grind (arith, nat_tests, bit_at_or a b k, bit_at-lt a k, bit_at-lt b k)
 
-bit_of_and : (a b k : ℕ) → bit (bit_and a b) k ≡ (bit a k && bit b k)
+pub bit_of_and : (a b k : ℕ) → bit (bit_and a b) k ≡ (bit a k && bit b k)
 bit_of_and a b k = grind (arith, nat_tests, bit_at_and a b k, bit_at-lt a k, bit_at-lt b k)
 
 pub bit_pow : (j k : ℕ) → bit (2 ^ j) k ≡ eqb j k
@@ -36,11 +36,23 @@ bit_with w k j = bit_of_or w (2 ^ k) j ∙ ap (λ b. bit w j || b) (bit_pow k j)
 
 -- ---- the lowest number
 
+-- the lowest number of a word, by its lowest digit and the lowest number of half of it
+lowest_step : (n w t : ℕ) → 0 < w → (0 < w / 2 → (t < n) × Lowest (w / 2) t) → (d : ℕ) → w % 2 ≡ d →
+    (under d t < suc n) × Lowest w (under d t)
+lowest_step n w t some rest zero even = let r = rest (omega arith) in (omega (arith, r.0), (bit_suc w t ∙ r.1.0, below r.1))
+  where
+    below : Lowest (w / 2) t → (k : ℕ) → k < suc t → bit w k ≡ false
+    below low zero h = first_false w even
+    below low (suc k) h = bit_suc w k ∙ low.1 k (omega arith)
+lowest_step n w t some rest (suc d) odd =
+    let first : w % 2 ≡ 1 = omega arith in (omega arith, (ap (λ n. eqb n 1) (bit_at_lowest w ∙ first), λ k h. absurd (omega arith)))
+
 -- what `trailing_zeros` counts is the lowest number
-pub lowest_bit : (w : ℕ) → 0 < w → w < 2 ^ 64 → (count_trailing_zeros 64 w < 64) × Lowest w (count_trailing_zeros 64 w)
-lowest_bit w some below =
-    let least = bit_at-trailing_zeros w64 w some below in
-    (least.0, (ap (λ n. eqb n 1) least.1, λ k h. ap (λ n. eqb n 1) (least.2 k h)))
+pub lowest_bit : (n w : ℕ) → 0 < w → w < 2 ^ n → (count_trailing_zeros n w < n) × Lowest w (count_trailing_zeros n w)
+unfolding count_trailing_zeros
+lowest_bit zero w some below = absurd (omega arith)
+lowest_bit (suc n) w some below =
+    lowest_step n w (count_trailing_zeros n (w / 2)) some (λ h. lowest_bit n (w / 2) h (omega (arith, pow-suc 2 n))) (w % 2) refl
 
 cleared : (l w k : ℕ) → Lowest w l → (bit w k && bit (w - 1) k) ≡ (bit w k && not (eqb k l))
 cleared zero w zero low = grind (arith, nat_tests, low.0, bit_at_lowest w, bit_at_lowest (w - 1))

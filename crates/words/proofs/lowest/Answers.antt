@@ -13,7 +13,7 @@ counted w None fits is t =
     let e : w ≡ 0 = grind (arith, nat_tests) in (e, λ k. rw e (bit_zero k))
 counted w (Some l) fits is t =
     let some : 0 < w = grind (arith, nat_tests) in
-    let least = lowest_bit w some fits in
+    let least = lowest_bit 64 w some fits in
     rw t (some, least.0, least.1)
 
 pub returns : goal.returns
