@@ -1,10 +1,11 @@
--- A lean listing runs through and has one peak; the test of a live object is exact.
-use Rattle.std.proofs.Common.{◌≡◌, ℕ, ◌<◌, ◌≤◌, ◌⊎◌, List, [], ◌∷◌, ◌++◌, refl, ap, subst, inl, inr, arith}
+-- A lean listing runs through and has one peak; the tests of phases are exact.
+use Rattle.std.proofs.Common.{◌≡◌, ℕ, ◌<◌, ◌≤◌, true, not, ◌≢◌, ◌⊎◌, ◌↔◌, List, [], ◌∷◌, ◌++◌, refl, ap, subst, inl, inr, arith}
 use Rattle.rules.specs.Sheets.{Sheet, actor_count}
-use Rattle.rules.specs.Runs.{State, Finished, Call, start, finish, after, Leads, stay, call, Grants, no_call, fresh}
-use Rattle.rules.specs.Lean.{LeanFrom, one_by_one, live_bytes, Moment, Peak}
+use Rattle.rules.specs.Runs.{State, Phase, waiting, running, finished, Finished, Call, start, finish, after, Leads, stay, call, Grants, no_call, fresh}
+use Rattle.rules.specs.Lean.{LeanFrom, one_by_one, is_started, is_finished, live_bytes, Moment, Peak}
 use Rattle.rules.specs.LeanLaws.{LeanListingsRun, PeakExistsOnce}
 use Rattle.rules.proofs.Deciding.{Decided, below}
+use Rattle.rules.proofs.Phases.{running_not_waiting, finished_not_waiting, finished_not_running}
 use Rattle.rules.proofs.Granting.{Fired, fresh_fired, fired_more, fires_one}
 use Rattle.rules.proofs.Answered.{every_call_is_answered}
 
@@ -144,3 +145,15 @@ pub peak_exists_once : PeakExistsOnce
 peak_exists_once s some [] lean = absurd (lean 0 some)
 peak_exists_once s some (a ∷ rest) lean =
     let r = some_peak s a rest in record { peak = r.0; is_peak = r.1; only = λ other h. same_peak s (a ∷ rest) other r.0 h r.1 }
+
+-- the test of a started actor is exact
+pub started_test_exact : (p : Phase) → (is_started p ≡ true) ↔ (p ≢ waiting)
+started_test_exact waiting = (λ e. let z : ◌≡◌ {A = ℕ} 0 1 = cc in absurd (omega arith), λ h. absurd (h refl))
+started_test_exact running = (λ e. running_not_waiting refl, λ h. refl)
+started_test_exact finished = (λ e. finished_not_waiting refl, λ h. refl)
+
+-- so is that of an actor that is not finished
+pub unfinished_test_exact : (p : Phase) → (not (is_finished p) ≡ true) ↔ (p ≡ finished → ⊥)
+unfinished_test_exact waiting = (λ e f. finished_not_waiting f refl, λ h. refl)
+unfinished_test_exact running = (λ e f. finished_not_running f refl, λ h. refl)
+unfinished_test_exact finished = (λ e. let z : ◌≡◌ {A = ℕ} 0 1 = cc in absurd (omega arith), λ h. absurd (h refl))
