@@ -9,7 +9,7 @@ ghost use Rattle.rules.specs.Sheets.{Sheet};
 
 use crate::ready::{ReadyActor, net_change};
 use graph::order::Order;
-use queue::Queue;
+use queue::{ByOrder, Queue};
 use rules::sheet::Link;
 use words::{ROOM, has, with};
 
@@ -22,7 +22,7 @@ fn is_free(order: &Order, a: u32, listed: u64) -> bool
 
 // Puts the actors that have become free into the queue. Answers which have entered it so far.
 fn enter(
-    queue: &mut Queue<ReadyActor>,
+    queue: &mut Queue<ReadyActor, ByOrder>,
     links: &[Link],
     order: &Order,
     count: u32,
