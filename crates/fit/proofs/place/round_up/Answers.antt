@@ -23,7 +23,7 @@ returns-then-grain-eq0-clause-value c =
 pub returns-clause-value : goal.returns-clause-value
 returns-clause-value c =
     let ceil : c.div_ceil.result ≡ div_ceil c.args.start c.args.grain =
-    c.div_ceil.ensures ∙ ap (λ n. div_ceil n c.from-step.result) c.from.ensures ∙ ap (div_ceil c.args.start) c.from-step.ensures
+    c.div_ceil.ensures ∙ ap (λ n. div_ceil n c.from-step.result) (omega arith) ∙ ap (div_ceil c.args.start) (omega arith)
     in
     ap (λ g. c.div_ceil.result * g) c.from-step.ensures ∙ ap (λ k. k * c.args.grain) ceil
     ∙ ceil_rounds c.args.grain c.args.start (omega arith)
